@@ -1,0 +1,140 @@
+-- The buffers keep their lengths: main storage, the store and the answers, whatever the call.
+--     blocks-into-length, delivered-length   the two ways in which bytes are stored
+--     step-lengths                           one command
+--     Going                                  what holds of a system between two commands of a chain
+--     call-lengths                           the call
+-- Assumes nothing.
+use Prim.Native.Nat.{ℕ, zero, suc, _+_, _-_, _*_, _/_, _%_, _≤_, _<_, min}
+use mathlib.Core.Path.{_≡_, refl, sym, ap, _∙_}
+use mathlib.Core.Bool.{Bool, true, false}
+use mathlib.Core.List.{List, [], _∷_, _++_}
+use lib.ListN.{length, take, drop, length-append, length-take}
+use native.Mathlib.Nat.{mul-zero, mul-le-mul-right, div-mul-le-self, div-add-mod}
+use native.Mathlib.Omega.{arith}
+use borrow.Author.Tests.{eqb-true}
+use Rattle.moves.specs.Parts.{put, pad}
+use Rattle.moves.proofs.Laws.{length-put, length-pad}
+use Rattle.model.specs.declared.ccw.Ccw.{Ccw}
+use Rattle.model.specs.declared.record.Record.{Record}
+use Rattle.model.specs.declared.state.State.{State}
+use Rattle.model.specs.declared.state.Done.{Done}
+use Rattle.model.specs.Names.{NO-OPERATION}
+use Rattle.model.specs.Rules.{pick, firstOf}
+use Rattle.model.specs.Lent.{ccwSize, ccwAt, fetched, delivered, blockStart, blockCount, blocksInto}
+use Rattle.model.specs.Parameters.{address, reads, writes}
+use Rattle.model.specs.Causes.{callCauses}
+use Rattle.model.specs.Commands.{Out, out, noOperation, defineExtent, locate, sent, sense, senseType, readLog, read, write, readIpl, refused, seen, after, step}
+use Rattle.model.specs.Answer.{answerSize, answerOf}
+use Rattle.model.specs.Chain.{System, system, stepAt, next, run, start, Called, called, callOf}
+use Rattle.model.proofs.Picks.{pick-ind}
+use Rattle.model.proofs.Steps.{Admitted, Cases, step-cases}
+use Rattle.model.proofs.Endings.{Callable, callable}
+use Rattle.model.proofs.Safety.{Safe, on-device, after-locate, safe-start, step-safe}
+
+pub blocks-into-length : (size : ℕ) (store : List ℕ) (block n : ℕ) (bytes : List ℕ) → (block + n) * size ≤ length store → length (blocksInto size store block n bytes) ≡ length store
+unfolding blocksInto blockStart
+blocks-into-length size store block zero bytes h = refl
+blocks-into-length size store block (suc n) bytes h =
+    let e = length-put store (block * size) (pad size bytes) (rw (length-pad size bytes) (omega arith)) in
+    blocks-into-length size _ (block + 1) n (drop size bytes) (rw e (omega arith)) ∙ e
+
+-- a command moves no more than its count
+delivered-length : (c : Ccw) (main : List ℕ) (can : ℕ) (bytes : List ℕ) → c .address + c .count ≤ length main → length (delivered c main (take (min (c .count) can) bytes)) ≡ length main
+unfolding delivered
+delivered-length c main can bytes h = length-put main (c .address) _ (rw length-take (omega arith))
+
+-- blocks of the device lie in the store
+pub in-store : (size : ℕ) (store : List ℕ) (n : ℕ) → n ≤ blockCount size store → n * size ≤ length store
+unfolding blockCount
+in-store size store n h = omega (arith, mul-le-mul-right size h, div-mul-le-self (length store) size)
+
+-- one command
+
+pub record SameLengths (main store : List ℕ) (o : Out) : Type 0 where
+  pub main-length : length (o .main) ≡ length main
+  pub store-length : length (o .store) ≡ length store
+
+module _ (size : ℕ) (c : Ccw) (s : State) (main store : List ℕ) (h : Safe s (blockCount size store)) where
+  lengths-cases : Cases size c s main store (SameLengths main store)
+  unfolding noOperation defineExtent locate sent sense senseType readLog read write readIpl refused seen after
+  lengths-cases =
+      let same : (d : Done) → SameLengths main store (out d main store) = λ d. record { main-length = refl; store-length = refl } in
+      let moved : (d : Done) (can : ℕ) (bytes : List ℕ) → Admitted c main → (c .command ≡ NO-OPERATION → ⊥)
+              → SameLengths main store (out d (delivered c main (take (min (c .count) can) bytes)) store)
+          = λ d can bytes a x. record { main-length = delivered-length c main can bytes (a .room x); store-length = refl } in
+      record
+      { refusal = λ _ _ _. same _
+      ; no-operation = λ _. same _
+      ; define-extent = λ _ _ _. same _
+      ; locate = λ _ _ _. same _
+      ; read = λ a x _. moved _ _ _ a (λ y. omega arith)
+      ; write = λ _ _ f. record
+          { main-length = refl
+          ; store-length = blocks-into-length size store _ _ _ (in-store size store _ (on-device s _ h (after-locate writes s f))) }
+      ; read-ipl = λ a x _. moved _ _ _ a (λ y. omega arith)
+      ; sense = λ a x. moved _ _ _ a (λ y. omega arith)
+      ; sense-type = λ a x. moved _ _ _ a (λ y. omega arith)
+      ; read-log = λ a x. moved _ _ _ a (λ y. omega arith) }
+
+  pub step-lengths : SameLengths main store (step size c s main store)
+  step-lengths = step-cases size c s main store (SameLengths main store) lengths-cases
+
+-- the chain
+
+-- what holds between two commands of a chain, of the system there and the one that it began with
+pub record Going (size : ℕ) (first y : System) : Type 0 where
+  pub main-length : length (y .main) ≡ length (first .main)
+  pub store-length : length (y .store) ≡ length (first .store)
+  pub answers-length : length (y .answers) ≡ length (first .answers)
+  pub safe : Safe (y .state) (blockCount size (y .store))
+
+answer-length : (c : Ccw) (d : Done) → length (answerOf c d) ≡ answerSize
+unfolding answerOf
+answer-length c d = refl
+
+module _ (size : ℕ) (chain : List ℕ) (first : System) (some : 0 < blockCount size (first .store)) where
+  pub next-going : (i : ℕ) (y : System) → i * answerSize + answerSize ≤ length (first .answers) → Going size first y → Going size first (next size chain i y)
+  unfolding next stepAt blockCount
+  next-going i y h g =
+      let c : Ccw = ccwAt chain i in
+      let l = step-lengths size c (y .state) (y .main) (y .store) (g .safe) in
+      let more : 0 < length (y .store) / size = rw (g .store-length) some in
+      record
+      { main-length = l .main-length ∙ g .main-length
+      ; store-length = l .store-length ∙ g .store-length
+      ; answers-length = length-put (y .answers) (i * answerSize) _ (rw (answer-length, g .answers-length) h) ∙ g .answers-length
+      ; safe = rw (l .store-length) (step-safe size c (y .state) (y .main) (y .store) more (g .safe)) }
+
+  pub run-going : (n i : ℕ) (y : System) → (i + n) * answerSize ≤ length (first .answers) → Going size first y → Going size first (run size chain n i y)
+  unfolding run
+  run-going zero i y h g = g
+  run-going (suc n) i y h g =
+      let k = next-going i y (omega arith) g in
+      pick-ind (Going size first) _ _ _ (λ _. run-going n (i + 1) (next size chain i y) (omega arith) k) (λ _. k)
+
+-- the call
+
+pub record SameSizes (main store answers : List ℕ) (r : Called) : Type 0 where
+  pub main-length : length (r .main) ≡ length main
+  pub store-length : length (r .store) ≡ length store
+  pub answers-length : length (r .answers) ≡ length answers
+
+some-block : (size : ℕ) (store : List ℕ) → (length store ≡ 0 → ⊥) → length store % size ≡ 0 → 0 < blockCount size store
+unfolding blockCount
+some-block size store n e = go (length store / size) refl
+  where
+    go : (k : ℕ) → length store / size ≡ k → 0 < k
+    go zero z = absurd (n (sym (div-add-mod (length store) size) ∙ rw (z, e, mul-zero) refl))
+    go (suc k) z = omega arith
+
+pub call-lengths : (size : ℕ) (chain main store : List ℕ) (u : Record) (answers : List ℕ) → SameSizes main store answers (callOf size chain main store u answers)
+unfolding callOf
+call-lengths size chain main store u answers =
+    let y : System = system (start u) main store answers 0 in
+    pick-ind (λ (z : System). SameSizes main store answers (called (firstOf (callCauses size chain main store answers)) z)) _ _ _
+    (λ b.
+      let k = callable size chain main store answers (eqb-true _ _ b) in
+      let g = run-going size chain y (some-block size store (k .stored) (k .even)) (length chain / ccwSize) 0 y (omega (arith, k .whole, k .answered))
+          (record { main-length = refl; store-length = refl; answers-length = refl; safe = safe-start u _ }) in
+      record { main-length = g .main-length; store-length = g .store-length; answers-length = g .answers-length })
+    (λ _. record { main-length = refl; store-length = refl; answers-length = refl })

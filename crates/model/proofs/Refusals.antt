@@ -1,0 +1,85 @@
+-- Demand 1, of refusals.
+--     call-refused      a call with cause 1 to 5 leaves all that it was lent as it was
+--     host-refused      so does a call from C, with cause 1 to 6
+--     step-untouched    a refused command leaves store and main storage as they were, and of the record changes the sense
+--                       alone; where it is a program check, nothing
+-- Assumes nothing.
+use Prim.Native.Nat.{ℕ, zero, suc, _+_, _*_}
+use mathlib.Core.Path.{_≡_, refl, sym, ap, _∙_}
+use mathlib.Core.Bool.{Bool, true, false}
+use mathlib.Core.List.{List}
+use borrow.Author.Tests.{eqb-true, ne-eqb}
+use Rattle.model.specs.declared.ccw.Ccw.{Ccw}
+use Rattle.model.specs.declared.record.Record.{Record}
+use Rattle.model.specs.declared.state.State.{State}
+use Rattle.model.specs.Rules.{_=?_, pick, firstOf}
+use Rattle.model.specs.Lent.{fetched}
+use Rattle.model.specs.Causes.{callCauses, hostCauses, programCheck, verdict}
+use Rattle.model.specs.Log.{withSense}
+use Rattle.model.specs.Commands.{Out, after, refused, step, sent, noOperation, defineExtent, locate, read, write, readIpl, sense, senseType, readLog}
+use Rattle.model.specs.Chain.{Called, callOf, start, system, run}
+use Rattle.model.specs.Host.{Hosted, resultOf, hostCallOf}
+use Rattle.model.proofs.Picks.{pick-ind, pick-true, pick-false}
+use Rattle.model.proofs.Steps.{Cases, step-cases}
+
+-- the call
+
+pub call-refused : (size : ℕ) (chain main store : List ℕ) (u : Record) (answers : List ℕ) (w : ℕ)
+    → firstOf (callCauses size chain main store answers) ≡ w → (w ≡ 0 → ⊥)
+    → callOf size chain main store u answers ≡ record { cause = w; reached = 0; unit = u; main = main; store = store; answers = answers }
+unfolding callOf start pick
+call-refused size chain main store u answers w e n = rw (e, ne-eqb w 0 n)
+
+pub host-refused : (size : ℕ) (chain main store unit answers : List ℕ) (w : ℕ)
+    → firstOf (hostCauses size chain main store unit answers) ≡ w → (w ≡ 0 → ⊥)
+    → hostCallOf size chain main store unit answers ≡ record { result = resultOf w 0; main = main; store = store; unit = unit; answers = answers }
+unfolding hostCallOf pick
+host-refused size chain main store unit answers w e n = rw (e, ne-eqb w 0 n)
+
+-- a command
+
+-- two records that differ in their sense at most
+pub record SameButSense (u v : Record) : Type 0 where
+  pub blocks-read : v .«blocks_read» ≡ u .«blocks_read»
+  pub blocks-written : v .«blocks_written» ≡ u .«blocks_written»
+  pub movements : v .movements ≡ u .movements
+  pub ready : v .ready ≡ u .ready
+  pub read-only : v .«read_only» ≡ u .«read_only»
+
+-- what a command leaves alone where it is refused
+pub record Untouched (s : State) (main store : List ℕ) (o : Out) : Type 0 where
+  pub main-same : o .main ≡ main
+  pub store-same : o .store ≡ store
+  pub nothing-moved : (o .done .moved ≡ 0) × (o .done .blocks ≡ 0)
+  pub unit-check : SameButSense (s .unit) (o .done .state .unit)
+  pub program-check : programCheck (o .done .cause) ≡ true → o .done .state .unit ≡ s .unit
+
+refused-untouched : (c : Ccw) (s : State) (main store : List ℕ) (w : ℕ) → Untouched s main store (refused c s main store w)
+unfolding refused after withSense
+refused-untouched c s main store w =
+    let same : SameButSense (s .unit) (s .unit) = record { blocks-read = refl; blocks-written = refl; movements = refl; ready = refl; read-only = refl } in
+    record
+    { main-same = refl
+    ; store-same = refl
+    ; nothing-moved = (refl, refl)
+    ; unit-check = pick-ind (SameButSense (s .unit)) _ _ _ (λ _. same)
+        (λ _. record { blocks-read = refl; blocks-written = refl; movements = refl; ready = refl; read-only = refl })
+    ; program-check = λ b. pick-true _ _ _ b }
+
+-- an accepted command has cause 0
+accepted-zero : (size : ℕ) (c : Ccw) (s : State) (main store : List ℕ) → Cases size c s main store (λ o. (o .done .cause ≡ 0 → ⊥) → Untouched s main store o)
+unfolding noOperation defineExtent locate read write readIpl sense senseType readLog sent
+accepted-zero size c s main store = record
+  { refusal = λ w n e z. refused-untouched c s main store w
+  ; no-operation = λ x z. absurd (z refl)
+  ; define-extent = λ a x f z. absurd (z refl)
+  ; locate = λ a x f z. absurd (z refl)
+  ; read = λ a x f z. absurd (z refl)
+  ; write = λ a x f z. absurd (z refl)
+  ; read-ipl = λ a x f z. absurd (z refl)
+  ; sense = λ a x z. absurd (z refl)
+  ; sense-type = λ a x z. absurd (z refl)
+  ; read-log = λ a x z. absurd (z refl) }
+
+pub step-untouched : (size : ℕ) (c : Ccw) (s : State) (main store : List ℕ) → (step size c s main store .done .cause ≡ 0 → ⊥) → Untouched s main store (step size c s main store)
+step-untouched size c s main store = step-cases size c s main store (λ o. (o .done .cause ≡ 0 → ⊥) → Untouched s main store o) (accepted-zero size c s main store)

@@ -1,0 +1,131 @@
+-- A chain's state stays on the device: the extent that stands is on it, and so are the blocks of the LOCATE before.
+--     OnDevice, InExtent   an extent is on the device; the blocks of a LOCATE are in the extent
+--     DefineOk, LocateOk   what is known of the parameters where no cause of the table holds
+--     Safe                 a state of a chain on a device of so many blocks
+--     step-safe            a command leaves a safe state
+--     on-device            the blocks of the LOCATE before are blocks of the device
+-- No contract cites this file.
+use Prim.Native.Nat.{ℕ, _+_, _-_, _≤_, _<_}
+use mathlib.Core.Path.{_≡_, refl, sym, ap, _∙_}
+use mathlib.Core.Bool.{Bool, true, false, not, false≢true}
+use mathlib.Core.List.{List}
+use native.Mathlib.Omega.{arith}
+use borrow.Author.Tests.{eqb-true, eqb-false, eq-eqb, ltb-true, ltb-false, not-false}
+use Rattle.model.specs.declared.ccw.Ccw.{Ccw}
+use Rattle.model.specs.declared.extent.Extent.{Extent}
+use Rattle.model.specs.declared.extent.Located.{Located}
+use Rattle.model.specs.declared.record.Record.{Record}
+use Rattle.model.specs.declared.state.Before.{Before}
+use Rattle.model.specs.declared.state.State.{State}
+use Rattle.model.specs.Names.{read-replicated}
+use Rattle.model.specs.Rules.{_<?_, pick}
+use Rattle.model.specs.Lent.{fetched, blockCount}
+use Rattle.model.specs.Parameters.{extentLength, extentIn, locateLength, locatedIn, replicationIn, processed, address, outside}
+use Rattle.model.specs.Causes.{defineExtentCauses, locateCauses, transferCauses, a-locate}
+use Rattle.model.specs.Commands.{Out, after, extentSet, locateSet, noOperation, defineExtent, locate, sent, sense, senseType, readLog, read, write, wholeDevice, readIpl, refused, seen, step}
+use Rattle.model.specs.Chain.{start}
+use Rattle.model.proofs.Picks.{pick-ind, pick-true, pick-false}
+use Rattle.model.proofs.Verdicts.{Failed, either-false, both-false}
+use Rattle.model.proofs.Steps.{Cases, step-cases}
+
+-- parameters that no cause refuses
+
+pub record OnDevice (e : Extent) (blocks : ℕ) : Type 0 where
+  pub order : e .first .0 ≤ e .last .0
+  pub inside : address e (e .last) < blocks
+
+pub record DefineOk (c : Ccw) (e : Extent) (blocks : ℕ) : Type 0 where
+  pub long : extentLength ≤ c .count
+  pub placed : OnDevice e blocks
+
+pub define-ok : (size blocks : ℕ) (c : Ccw) (s : State) (p : List ℕ) → Failed (defineExtentCauses size blocks c s p) → DefineOk c (extentIn p) blocks
+unfolding defineExtentCauses
+define-ok size blocks c s p f = record
+  { long = ltb-false _ _ (f .0)
+  ; placed = record { order = ltb-false _ _ (f .1 .1 .1 .1 .1 .0); inside = ltb-true _ _ (not-false _ (f .1 .1 .1 .1 .1 .1 .0)) } }
+
+pub record InExtent (e : Extent) (l : Located) : Type 0 where
+  pub some : 1 ≤ l .blocks
+  pub from-first : e .first .0 ≤ l .displacement .0
+  pub to-last : l .displacement .0 + l .blocks ≤ e .last .0 + 1
+
+pub record LocateOk (c : Ccw) (s : State) (l : Located) : Type 0 where
+  pub defined : s .defined ≡ true
+  pub long : locateLength ≤ c .count
+  pub placed : InExtent (s .extent) l
+
+-- a replicated read processes at least the blocks of one unit
+processed-covers : (c : Ccw) (s : State) (p : List ℕ) → Failed (locateCauses c s p) → locatedIn p .blocks ≤ processed p
+unfolding locateCauses processed
+processed-covers c s p f =
+    pick-ind (λ (n : ℕ). locatedIn p .blocks ≤ n) _ _ _
+    (λ b. ltb-false _ _ (either-false _ _ (both-false _ _ (f .1 .1 .1 .1 .1 .0) b) .0))
+    (λ b. omega arith)
+
+pub locate-ok : (c : Ccw) (s : State) (p : List ℕ) → Failed (locateCauses c s p) → LocateOk c s (locatedIn p)
+unfolding locateCauses outside
+locate-ok c s p f =
+    let k = processed-covers c s p f in
+    let n = eqb-false (locatedIn p .blocks) 0 (either-false _ _ (f .1 .1 .1 .1 .0) .0) in
+    let o = either-false (locatedIn p .displacement .0 <? s .extent .first .0) (s .extent .last .0 + 1 <? locatedIn p .displacement .0 + processed p) (f .1 .1 .1 .1 .1 .1 .0) in
+    let h : locatedIn p .displacement .0 + processed p ≤ s .extent .last .0 + 1 = ltb-false _ _ (o .1) in
+    record
+    { defined = not-false _ (f .0)
+    ; long = ltb-false _ _ (f .1 .0)
+    ; placed = record { some = omega (arith, n); from-first = ltb-false _ _ (o .0); to-last = omega (arith, k, h) } }
+
+pub after-locate : (follows : ℕ → Bool) (s : State) → Failed (transferCauses follows s) → a-locate (s .before) ≡ true
+unfolding transferCauses
+after-locate follows s f = not-false _ (f .0)
+
+-- the state
+
+pub record Safe (s : State) (blocks : ℕ) : Type 0 where
+  pub extent : s .defined ≡ true → OnDevice (s .extent) blocks
+  pub located : a-locate (s .before) ≡ true → (s .defined ≡ true) × InExtent (s .extent) (s .located)
+
+pub on-device : (s : State) (blocks : ℕ) → Safe s blocks → a-locate (s .before) ≡ true → address (s .extent) (s .located .displacement) + s .located .blocks ≤ blocks
+unfolding address
+on-device s blocks h b =
+    let l = h .located b in
+    let e = h .extent (l .0) in
+    omega (arith, l .1 .from-first, l .1 .to-last, e .order, e .inside)
+
+pub safe-start : (u : Record) (blocks : ℕ) → Safe (start u) blocks
+unfolding start
+safe-start u blocks = record { extent = λ e. absurd (false≢true e); located = λ e. absurd (false≢true e) }
+
+-- a state with the same extent, after a command that is no LOCATE
+safe-after : (s : State) (u : Record) (b : Before) (blocks : ℕ) → a-locate b ≡ false → Safe s blocks → Safe (after s u b) blocks
+unfolding after
+safe-after s u b blocks e h = record { extent = h .extent; located = λ f. absurd (false≢true (sym e ∙ f)) }
+
+safe-seen : (c : Ccw) (s : State) (blocks : ℕ) → Safe s blocks → Safe (seen c s) blocks
+unfolding seen after
+safe-seen c s blocks h = record { extent = h .extent; located = h .located }
+
+module _ (size : ℕ) (c : Ccw) (s : State) (main store : List ℕ) (some : 0 < blockCount size store) (h : Safe s (blockCount size store)) where
+  safe-cases : Cases size c s main store (λ o. Safe (o .done .state) (blockCount size store))
+  unfolding noOperation defineExtent locate read write readIpl sense senseType readLog sent refused seen after extentSet locateSet wholeDevice address
+  safe-cases =
+      let n : ℕ = blockCount size store in
+      let t : State = seen c s in
+      let k : Safe t n = safe-seen c s n h in
+      record
+      { refusal = λ w _ _. safe-after s _ _ n refl h
+      ; no-operation = λ _. safe-after t _ _ n refl k
+      ; define-extent = λ _ _ f.
+          let d = define-ok size n c s _ f in
+          record { extent = λ _. d .placed; located = λ e. absurd (false≢true e) }
+      ; locate = λ _ _ f.
+          let l = locate-ok c s _ f in
+          record { extent = k .extent; located = λ _. (l .defined, l .placed) }
+      ; read = λ _ _ _. safe-after t _ _ n refl k
+      ; write = λ _ _ _. safe-after t _ _ n refl k
+      ; read-ipl = λ _ _ _. record { extent = λ _. record { order = omega arith; inside = omega arith }; located = λ e. absurd (false≢true e) }
+      ; sense = λ _ _. safe-after t _ _ n refl k
+      ; sense-type = λ _ _. safe-after t _ _ n refl k
+      ; read-log = λ _ _. safe-after t _ _ n refl k }
+
+  pub step-safe : Safe (step size c s main store .done .state) (blockCount size store)
+  step-safe = step-cases size c s main store (λ o. Safe (o .done .state) (blockCount size store)) safe-cases

@@ -1,0 +1,164 @@
+-- Laws of `step`: a command is refused, or accepted as one of nine. Callers use these, not its text.
+--     step-accepted, step-refused   by the verdict
+--     Admitted                      what a command is known to have where the channel passed it on
+--     past-channel                  a verdict that the channel and the unit do not give is the command's own
+--     own-.. , accepted-..          the table and the effect of each command
+--     step-cases                    what holds of a refusal and of each accepted command holds of `step`
+-- No contract cites this file.
+use Prim.Native.Nat.{ℕ, _+_, _≤_, _<_}
+use mathlib.Core.Path.{_≡_, refl, sym, ap, _∙_}
+use mathlib.Core.Bool.{Bool, true, false, not, _||_, false≢true}
+use mathlib.Core.List.{List, [], _∷_, _++_}
+use lib.Dec.{eqb}
+use lib.ListN.{length}
+use native.Mathlib.Omega.{arith}
+use borrow.Author.Tests.{eqb-true, eqb-false, eq-eqb, ne-eqb, ltb-false, not-false}
+use Rattle.model.specs.declared.ccw.Ccw.{Ccw}
+use Rattle.model.specs.declared.state.State.{State}
+use Rattle.model.specs.Names.{NO-OPERATION, DEFINE-EXTENT, LOCATE, READ, WRITE, READ-IPL, SENSE, SENSE-TYPE, READ-LOG}
+use Rattle.model.specs.Rules.{_=?_, pick, oneOf, Rule, firstOf}
+use Rattle.model.specs.Lent.{fetched, blockCount}
+use Rattle.model.specs.Parameters.{extentLength, locateLength, reads, writes}
+use Rattle.model.specs.Causes.{channelCauses, commands, unitCauses, defineExtentCauses, locateCauses, readIplCauses, transferCauses, ownCauses, causesOf, verdict}
+use Rattle.model.specs.Commands.{Out, noOperation, defineExtent, locate, read, write, readIpl, sense, senseType, readLog, accepted, refused, seen, step}
+use Rattle.model.proofs.Picks.{pick-ind, pick-true, pick-false}
+use Rattle.model.proofs.Verdicts.{Failed, absent, failed-upto, failed-all, both-false}
+
+-- what the channel's tests leave known of a command, and the unit's
+pub record Admitted (c : Ccw) (main : List ℕ) : Type 0 where
+  pub some : 0 < c .count
+  pub room : (c .command ≡ NO-OPERATION → ⊥) → c .address + c .count ≤ length main
+  pub listed : oneOf commands (c .command) ≡ true
+
+either-cases : (P : Type 0) (a b : Bool) → a || b ≡ true → (a ≡ true → P) → (b ≡ true → P) → P
+either-cases P true b e f g = f refl
+either-cases P false b e f g = g e
+
+-- a number is the first of those listed, or among the others
+one-of : (P : Type 0) (k : ℕ) (ks : List ℕ) (n : ℕ) → oneOf (k ∷ ks) n ≡ true → (n ≡ k → P) → (oneOf ks n ≡ true → P) → P
+unfolding oneOf
+one-of P k ks n e f g = either-cases P _ _ e (λ b. f (eqb-true n k b)) g
+
+none-of : (n : ℕ) → oneOf [] n ≡ true → ⊥
+unfolding oneOf
+none-of n e = false≢true e
+
+module _ (size : ℕ) (c : Ccw) (s : State) (main store : List ℕ) where
+  pub step-accepted : verdict size c s main store ≡ 0 → step size c s main store ≡ accepted size c (seen c s) main store
+  unfolding step
+  step-accepted e = pick-true _ _ _ (eq-eqb _ _ e)
+
+  pub step-refused : (verdict size c s main store ≡ 0 → ⊥) → step size c s main store ≡ refused c s main store (verdict size c s main store)
+  unfolding step
+  step-refused n = pick-false _ _ _ (ne-eqb _ _ n)
+
+  pub past-channel : (w : ℕ) → absent w (channelCauses c main ++ unitCauses c s) ≡ true → verdict size c s main store ≡ w → Admitted c main × (firstOf (ownCauses size c s main store) ≡ w)
+  unfolding verdict causesOf channelCauses unitCauses
+  past-channel w a e =
+      let f = failed-upto w (channelCauses c main ++ unitCauses c s) (ownCauses size c s main store) a e in
+      let none = eqb-false (c .count) 0 (f .0 .1 .1 .0) in
+      ( record
+        { some = omega (arith, none)
+        ; room = λ n.
+            let other : not (c .command =? NO-OPERATION) ≡ true = rw (ne-eqb _ _ n) refl in
+            ltb-false _ _ (both-false _ _ (f .0 .1 .1 .1 .0) other)
+        ; listed = not-false _ (f .0 .1 .1 .1 .1 .1 .0) }
+      , f .1)
+
+  own-define : c .command ≡ DEFINE-EXTENT → ownCauses size c s main store ≡ defineExtentCauses size (blockCount size store) c s (fetched c main extentLength)
+  unfolding ownCauses pick
+  own-define e = rw e
+
+  own-locate : c .command ≡ LOCATE → ownCauses size c s main store ≡ locateCauses c s (fetched c main locateLength)
+  unfolding ownCauses pick
+  own-locate e = rw e
+
+  own-read-ipl : c .command ≡ READ-IPL → ownCauses size c s main store ≡ readIplCauses s
+  unfolding ownCauses pick
+  own-read-ipl e = rw e
+
+  own-read : c .command ≡ READ → ownCauses size c s main store ≡ transferCauses reads s
+  unfolding ownCauses pick
+  own-read e = rw e
+
+  own-write : c .command ≡ WRITE → ownCauses size c s main store ≡ transferCauses writes s
+  unfolding ownCauses pick
+  own-write e = rw e
+
+  -- what an accepted command does, by the command
+
+  pub accepted-no-operation : c .command ≡ NO-OPERATION → accepted size c s main store ≡ noOperation s main store
+  unfolding accepted pick
+  accepted-no-operation e = rw e
+
+  pub accepted-define : c .command ≡ DEFINE-EXTENT → accepted size c s main store ≡ defineExtent c s main store
+  unfolding accepted pick
+  accepted-define e = rw e
+
+  pub accepted-locate : c .command ≡ LOCATE → accepted size c s main store ≡ locate c s main store
+  unfolding accepted pick
+  accepted-locate e = rw e
+
+  pub accepted-read : c .command ≡ READ → accepted size c s main store ≡ read size c s main store
+  unfolding accepted pick
+  accepted-read e = rw e
+
+  pub accepted-write : c .command ≡ WRITE → accepted size c s main store ≡ write size c s main store
+  unfolding accepted pick
+  accepted-write e = rw e
+
+  pub accepted-read-ipl : c .command ≡ READ-IPL → accepted size c s main store ≡ readIpl size c s main store
+  unfolding accepted pick
+  accepted-read-ipl e = rw e
+
+  pub accepted-sense : c .command ≡ SENSE → accepted size c s main store ≡ sense c s main store
+  unfolding accepted pick
+  accepted-sense e = rw e
+
+  pub accepted-sense-type : c .command ≡ SENSE-TYPE → accepted size c s main store ≡ senseType c s main store
+  unfolding accepted pick
+  accepted-sense-type e = rw e
+
+  pub accepted-read-log : c .command ≡ READ-LOG → accepted size c s main store ≡ readLog c s main store
+  unfolding accepted pick
+  accepted-read-log e = rw e
+
+  -- a verdict of the command's own table is one of the table's that the command has
+  own-failed : (rs : List Rule) → ownCauses size c s main store ≡ rs → absent 0 rs ≡ true → firstOf (ownCauses size c s main store) ≡ 0 → Failed rs
+  own-failed rs e a f = failed-all 0 rs a (sym (ap firstOf e) ∙ f)
+
+-- a property of every refusal and of what each accepted command does
+pub record Cases (size : ℕ) (c : Ccw) (s : State) (main store : List ℕ) (P : Out → Type 0) : Type 0 where
+  pub refusal : (w : ℕ) → (w ≡ 0 → ⊥) → verdict size c s main store ≡ w → P (refused c s main store w)
+  pub no-operation : c .command ≡ NO-OPERATION → P (noOperation (seen c s) main store)
+  pub define-extent : Admitted c main → c .command ≡ DEFINE-EXTENT → Failed (defineExtentCauses size (blockCount size store) c s (fetched c main extentLength)) → P (defineExtent c (seen c s) main store)
+  pub locate : Admitted c main → c .command ≡ LOCATE → Failed (locateCauses c s (fetched c main locateLength)) → P (locate c (seen c s) main store)
+  pub read : Admitted c main → c .command ≡ READ → Failed (transferCauses reads s) → P (read size c (seen c s) main store)
+  pub write : Admitted c main → c .command ≡ WRITE → Failed (transferCauses writes s) → P (write size c (seen c s) main store)
+  pub read-ipl : Admitted c main → c .command ≡ READ-IPL → Failed (readIplCauses s) → P (readIpl size c (seen c s) main store)
+  pub sense : Admitted c main → c .command ≡ SENSE → P (sense c (seen c s) main store)
+  pub sense-type : Admitted c main → c .command ≡ SENSE-TYPE → P (senseType c (seen c s) main store)
+  pub read-log : Admitted c main → c .command ≡ READ-LOG → P (readLog c (seen c s) main store)
+
+accepted-cases : (size : ℕ) (c : Ccw) (s : State) (main store : List ℕ) (P : Out → Type 0) → Cases size c s main store P → verdict size c s main store ≡ 0 → P (accepted size c (seen c s) main store)
+unfolding channelCauses unitCauses defineExtentCauses locateCauses readIplCauses transferCauses
+accepted-cases size c s main store P k e =
+    let p = past-channel size c s main store 0 refl e in
+    let a = p .0 in
+    let t : State = seen c s in
+    let Q : Type 0 = P (accepted size c t main store) in
+    let own = own-failed size c s main store in
+    one-of Q _ _ _ (a .listed) (λ x. rw (accepted-no-operation size c t main store x) (k .no-operation x)) (λ l.
+    one-of Q _ _ _ l (λ x. rw (accepted-define size c t main store x) (k .define-extent a x (own _ (own-define size c s main store x) refl (p .1)))) (λ l.
+    one-of Q _ _ _ l (λ x. rw (accepted-locate size c t main store x) (k .locate a x (own _ (own-locate size c s main store x) refl (p .1)))) (λ l.
+    one-of Q _ _ _ l (λ x. rw (accepted-read size c t main store x) (k .read a x (own _ (own-read size c s main store x) refl (p .1)))) (λ l.
+    one-of Q _ _ _ l (λ x. rw (accepted-write size c t main store x) (k .write a x (own _ (own-write size c s main store x) refl (p .1)))) (λ l.
+    one-of Q _ _ _ l (λ x. rw (accepted-read-ipl size c t main store x) (k .read-ipl a x (own _ (own-read-ipl size c s main store x) refl (p .1)))) (λ l.
+    one-of Q _ _ _ l (λ x. rw (accepted-sense size c t main store x) (k .sense a x)) (λ l.
+    one-of Q _ _ _ l (λ x. rw (accepted-sense-type size c t main store x) (k .sense-type a x)) (λ l.
+    one-of Q _ _ _ l (λ x. rw (accepted-read-log size c t main store x) (k .read-log a x)) (λ l. absurd (none-of _ l))))))))))
+
+pub step-cases : (size : ℕ) (c : Ccw) (s : State) (main store : List ℕ) (P : Out → Type 0) → Cases size c s main store P → P (step size c s main store)
+unfolding step
+step-cases size c s main store P k =
+    pick-ind P _ _ _ (λ b. accepted-cases size c s main store P k (eqb-true _ _ b)) (λ b. k .refusal _ (eqb-false _ _ b) refl)

@@ -1,0 +1,40 @@
+-- The answer to one command (01, What is lent: Answers), and whether the chain goes on after it.
+--     unitStatus, channelStatus, answerOf, goesOn
+-- Assumes nothing.
+use Prim.Native.Nat.{ℕ, _-_}
+use mathlib.Core.Bool.{Bool, not, _&&_}
+use mathlib.Core.List.{List, [], _∷_, _++_}
+use Rattle.numbers.specs.Big.{bytes2}
+use Rattle.model.specs.declared.ccw.Ccw.{Ccw}
+use Rattle.model.specs.declared.state.Done.{Done}
+use Rattle.model.specs.Names.{NO-OPERATION, chain-command, suppress-length, ENDED, UNIT-CHECKED, PROGRAM-CHECK, INCORRECT-LENGTH}
+use Rattle.model.specs.Rules.{_=?_, pick}
+use Rattle.model.specs.Lent.{flag}
+use Rattle.model.specs.Causes.{programCheck}
+
+unfoldable pub unitStatus : ℕ → ℕ
+unitStatus cause = pick (cause =? 0) ENDED (pick (programCheck cause) 0 UNIT-CHECKED)
+
+-- "40 (incorrect length) if flag 20 is off and the count differs from the bytes the command can move"
+unfoldable pub wrongLength : Ccw → Done → Bool
+wrongLength c d = not (c .command =? NO-OPERATION) && not (flag c suppress-length) && not (c .count =? d .can)
+
+unfoldable pub channelStatus : Ccw → Done → ℕ
+channelStatus c d =
+    pick (d .cause =? 0) (pick (wrongLength c d) INCORRECT-LENGTH 0)
+    (pick (programCheck (d .cause)) PROGRAM-CHECK 0)
+
+-- "Residual is count minus bytes moved"
+unfoldable pub residual : Ccw → Done → ℕ
+residual c d = c .count - d .moved
+
+-- unit status, channel status, residual count (2), cause, zero, blocks moved (2)
+abbrev pub answerSize : ℕ
+answerSize = 8
+
+unfoldable pub answerOf : Ccw → Done → List ℕ
+answerOf c d = (unitStatus (d .cause) ∷ channelStatus c d ∷ []) ++ bytes2 (residual c d) ++ (d .cause ∷ 0 ∷ []) ++ bytes2 (d .blocks)
+
+-- "A refusal ends the chain", "40 ends the chain", and so does a CCW without flag 40
+unfoldable pub goesOn : Ccw → Done → Bool
+goesOn c d = d .cause =? 0 && channelStatus c d =? 0 && flag c chain-command

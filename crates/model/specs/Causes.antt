@@ -1,0 +1,134 @@
+-- The table of causes (01, Causes): each cause with the rule by which it is given, in 01's order.
+--     callCauses            1 to 5             before any command
+--     hostCauses            1 to 6             the same, where the unit record comes as bytes
+--     channelCauses         13, 10, 11, 12     the channel's own tests of a command: program checks
+--     unitCauses            44, 43             the unit's tests of any command that it sees
+--     defineExtentCauses    20 to 26           the commands' own tests
+--     locateCauses          30 to 39
+--     readIplCauses         40
+--     transferCauses        41, 42             READ and WRITE
+--     causesOf              all the lines that can apply to a command, in order; `verdict` is the first that holds
+-- Where 002 overrules 01 a line says so. `size` is the block size of the device. Assumes nothing.
+use Prim.Native.Nat.{ℕ, zero, suc, _+_, _/_, _%_}
+use mathlib.Core.Bool.{Bool, true, false, not, _&&_, _||_}
+use mathlib.Core.List.{List, [], _∷_, _++_}
+use lib.ListN.{length}
+use Rattle.numbers.specs.Bits.{bit, anyBit}
+use Rattle.model.specs.declared.ccw.Ccw.{Ccw}
+use Rattle.model.specs.declared.state.Before.{Before}
+use Rattle.model.specs.declared.state.Before.the-variants.{Nothing, ReadIpl, Locate, Other}
+use Rattle.model.specs.declared.state.State.{State}
+use Rattle.model.specs.Names.{NO-OPERATION, DEFINE-EXTENT, LOCATE, READ, WRITE, READ-IPL, SENSE, SENSE-TYPE, READ-LOG, chain-command, format, read-replicated}
+use Rattle.model.specs.Rules.{_<?_, _=?_, pick, oneOf, Rule, _when_, firstOf}
+use Rattle.model.specs.Lent.{ccwSize, ccwAt, flag, fetched, blockCount, recordSize}
+use Rattle.model.specs.Parameters.{extentLength, extentIn, reservedIn, sizeIn, locateLength, locatedIn, modifiersIn, replicationIn, processed, operations, reads, writes, forbids, address, outside}
+
+-- the call
+
+-- each of the first n CCWs has flag 40
+unfoldable pub allChained : List ℕ → ℕ → Bool
+allChained chain zero = true
+allChained chain (suc n) = flag (ccwAt chain n) chain-command && allChained chain n
+
+unfoldable pub callCauses : ℕ → List ℕ → List ℕ → List ℕ → List ℕ → List Rule
+callCauses size chain main store answers =
+    1 when (length chain =? 0 || 256 <? length chain || not (length chain % ccwSize =? 0))
+    ∷ 2 when (length store =? 0 || not (length store % size =? 0) || 131072 <? blockCount size store)
+    ∷ 3 when (16777216 <? length main)
+    ∷ 4 when (length answers <? length chain)
+    ∷ 5 when allChained chain (length chain / ccwSize)
+    ∷ []
+
+unfoldable pub hostCauses : ℕ → List ℕ → List ℕ → List ℕ → List ℕ → List ℕ → List Rule
+hostCauses size chain main store unit answers = callCauses size chain main store answers ++ (6 when not (length unit =? recordSize) ∷ [])
+
+-- the channel: 10 to 13 are program checks, and the unit does not see the command
+
+unfoldable pub channelCauses : Ccw → List ℕ → List Rule
+channelCauses c main =
+    13 when oneOf (0 ∷ 8 ∷ []) (c .command % 16)
+    ∷ 10 when anyBit (c .flags .0) (0 ∷ 3 ∷ 4 ∷ 5 ∷ 6 ∷ 7 ∷ [])
+    ∷ 11 when (c .count =? 0)
+    ∷ 12 when (not (c .command =? NO-OPERATION) && length main <? c .address + c .count)
+    ∷ []
+
+unfoldable pub programCheck : ℕ → Bool
+programCheck = oneOf (10 ∷ 11 ∷ 12 ∷ 13 ∷ [])
+
+-- the unit
+
+abbrev pub commands : List ℕ
+commands = NO-OPERATION ∷ DEFINE-EXTENT ∷ LOCATE ∷ READ ∷ WRITE ∷ READ-IPL ∷ SENSE ∷ SENSE-TYPE ∷ READ-LOG ∷ []
+
+unfoldable pub unitCauses : Ccw → State → List Rule
+unitCauses c s =
+    44 when (s .unit .ready =? 0 && not (oneOf (SENSE ∷ SENSE-TYPE ∷ []) (c .command)))
+    ∷ 43 when not (oneOf commands (c .command))
+    ∷ []
+
+-- DEFINE EXTENT, by its parameters, on a device of so many blocks
+unfoldable pub defineExtentCauses : ℕ → ℕ → Ccw → State → List ℕ → List Rule
+defineExtentCauses size blocks c s p =
+    let e = extentIn p in
+    20 when (c .count <? extentLength)
+    ∷ 21 when s .defined
+    ∷ 22 when ((bit (e .mask) 0 && not (bit (e .mask) 1)) || anyBit (e .mask) (2 ∷ 3 ∷ 6 ∷ 7 ∷ []) || not (reservedIn p =? 0))
+    ∷ 23 when bit (e .mask) 4
+    ∷ 24 when not (oneOf (0 ∷ size ∷ []) (sizeIn p))
+    ∷ 25 when (e .last .0 <? e .first .0)
+    ∷ 26 when not (address e (e .last) <? blocks)
+    ∷ []
+
+-- LOCATE, by its parameters. 32: 002, 2.1.4, ignores modifier bit 3 where there is no untagged DEVICE END
+unfoldable pub locateCauses : Ccw → State → List ℕ → List Rule
+locateCauses c s p =
+    let l = locatedIn p in
+    30 when not (s .defined)
+    ∷ 31 when (c .count <? locateLength)
+    ∷ 32 when anyBit (modifiersIn p) (0 ∷ 1 ∷ 2 ∷ [])
+    ∷ 33 when not (oneOf operations (l .operation))
+    ∷ 34 when (l .blocks =? 0 || (l .operation =? format && not (l .blocks =? 1)))
+    ∷ 35 when (l .operation =? read-replicated && (replicationIn p <? l .blocks || not (replicationIn p % l .blocks =? 0)))
+    ∷ 36 when outside (s .extent) (l .displacement) (processed p)
+    ∷ 37 when forbids (s .extent .mask) (l .operation)
+    ∷ 38 when (not (s .unit .«read_only» =? 0) && (writes (l .operation) || l .operation =? format))
+    ∷ 39 when (l .operation =? format)
+    ∷ []
+
+-- the command directly before
+
+abbrev pub none-or-ipl : Before → Bool
+none-or-ipl Nothing = true
+none-or-ipl ReadIpl = true
+none-or-ipl Locate = false
+none-or-ipl Other = false
+
+abbrev pub a-locate : Before → Bool
+a-locate Nothing = false
+a-locate ReadIpl = false
+a-locate Locate = true
+a-locate Other = false
+
+-- READ IPL. 002, 2.2.2.1, takes it first in its chain or after another READ IPL
+unfoldable pub readIplCauses : State → List Rule
+readIplCauses s = 40 when not (none-or-ipl (s .before)) ∷ []
+
+-- READ, WRITE, by the operations that each may follow
+unfoldable pub transferCauses : (ℕ → Bool) → State → List Rule
+transferCauses follows s = 41 when not (a-locate (s .before)) ∷ 42 when not (follows (s .located .operation)) ∷ []
+
+-- a command
+
+unfoldable pub ownCauses : ℕ → Ccw → State → List ℕ → List ℕ → List Rule
+ownCauses size c s main store =
+    pick (c .command =? DEFINE-EXTENT) (defineExtentCauses size (blockCount size store) c s (fetched c main extentLength))
+    (pick (c .command =? LOCATE) (locateCauses c s (fetched c main locateLength))
+    (pick (c .command =? READ-IPL) (readIplCauses s)
+    (pick (c .command =? READ) (transferCauses reads s)
+    (pick (c .command =? WRITE) (transferCauses writes s) []))))
+
+unfoldable pub causesOf : ℕ → Ccw → State → List ℕ → List ℕ → List Rule
+causesOf size c s main store = channelCauses c main ++ unitCauses c s ++ ownCauses size c s main store
+
+unfoldable pub verdict : ℕ → Ccw → State → List ℕ → List ℕ → ℕ
+verdict size c s main store = firstOf (causesOf size c s main store)

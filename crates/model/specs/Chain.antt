@@ -1,0 +1,83 @@
+-- The chain, and the call.
+--     System   all that a chain works on: the state, main storage, the store, the answers, the commands reached
+--     next     the system after command i;  more   whether the chain goes on after it
+--     run      the chain from command i on, n commands at most
+--     call     01, What is lent and Causes: refused as a whole by 1 to 5, or the chain run
+-- Assumes nothing.
+use Prim.Native.Nat.{ℕ, zero, suc, _+_, _*_, _/_}
+use mathlib.Core.Bool.{Bool, false}
+use mathlib.Core.List.{List}
+use lib.ListN.{length}
+use Rattle.moves.specs.Parts.{put}
+use Rattle.model.specs.declared.extent.Extent.{Extent}
+use Rattle.model.specs.declared.extent.Located.{Located}
+use Rattle.model.specs.declared.record.Record.{Record}
+use Rattle.model.specs.declared.state.Before.the-variants.{Nothing}
+use Rattle.model.specs.declared.state.State.{State}
+use Rattle.model.specs.Rules.{_=?_, pick, firstOf}
+use Rattle.model.specs.Lent.{ccwSize, ccwAt}
+use Rattle.model.specs.Causes.{callCauses}
+use Rattle.model.specs.Commands.{Out, step}
+use Rattle.model.specs.Answer.{answerSize, answerOf, goesOn}
+
+pub record System : Type 0 where
+  pub state : State
+  pub main : List ℕ
+  pub store : List ℕ
+  pub answers : List ℕ
+  pub reached : ℕ
+
+abbrev pub system : State → List ℕ → List ℕ → List ℕ → ℕ → System
+system s main store answers reached = record { state = s; main = main; store = store; answers = answers; reached = reached }
+
+module _ (size : ℕ) (chain : List ℕ) where
+  -- what command i gives
+  unfoldable pub stepAt : ℕ → System → Out
+  stepAt i y = step size (ccwAt chain i) (y .state) (y .main) (y .store)
+
+  unfoldable pub next : ℕ → System → System
+  next i y =
+      let o = stepAt i y in
+      system (o .done .state) (o .main) (o .store) (put (y .answers) (i * answerSize) (answerOf (ccwAt chain i) (o .done))) (i + 1)
+
+  unfoldable pub more : ℕ → System → Bool
+  more i y = goesOn (ccwAt chain i) (stepAt i y .done)
+
+  unfoldable pub run : ℕ → ℕ → System → System
+  run zero i y = y
+  run (suc n) i y = pick (more i y) (run n (i + 1) (next i y)) (next i y)
+
+-- no extent and no command before: "Keeping an extent from one chain to the next" is an error
+unfoldable pub start : Record → State
+start u = record
+  { unit = u
+  ; defined = false
+  ; extent = record { mask = 0; offset = record { 0 = 0 }; first = record { 0 = 0 }; last = record { 0 = 0 } }
+  ; before = Nothing
+  ; located = record { operation = 0; blocks = 0; displacement = record { 0 = 0 } } }
+
+-- what a call gives: cause and commands reached, and all that was lent as it then is
+pub record Called : Type 0 where
+  pub cause : ℕ
+  pub reached : ℕ
+  pub unit : Record
+  pub main : List ℕ
+  pub store : List ℕ
+  pub answers : List ℕ
+
+abbrev pub called : ℕ → System → Called
+called cause y = record { cause = cause; reached = y .reached; unit = y .state .unit; main = y .main; store = y .store; answers = y .answers }
+
+-- "Causes 1 to 6 come before any command and write nothing at all"
+unfoldable pub callOf : ℕ → List ℕ → List ℕ → List ℕ → Record → List ℕ → Called
+callOf size chain main store u answers =
+    let cause = firstOf (callCauses size chain main store answers) in
+    let y = system (start u) main store answers 0 in
+    called cause (pick (cause =? 0) (run size chain (length chain / ccwSize) 0 y) y)
+
+-- Class A: blocks of 512 bytes
+abbrev pub classA : ℕ
+classA = 512
+
+abbrev pub call : List ℕ → List ℕ → List ℕ → Record → List ℕ → Called
+call = callOf classA

@@ -1,0 +1,33 @@
+-- The call as C makes it: the unit record comes and goes as bytes, and the result is one number.
+--     hostCallOf   refused as a whole by 1 to 6, or the call
+--     resultOf     "256 times the cause plus" the commands reached
+-- Assumes nothing.
+use Prim.Native.Nat.{ℕ, _+_, _*_}
+use mathlib.Core.List.{List}
+use Rattle.model.specs.Rules.{_=?_, pick, firstOf}
+use Rattle.model.specs.Lent.{recordBytes, recordOf}
+use Rattle.model.specs.Causes.{hostCauses}
+use Rattle.model.specs.Chain.{Called, callOf, classA}
+
+-- the result, and every byte that was lent to be written, afterwards
+pub record Hosted : Type 0 where
+  pub result : ℕ
+  pub main : List ℕ
+  pub store : List ℕ
+  pub unit : List ℕ
+  pub answers : List ℕ
+
+unfoldable pub resultOf : ℕ → ℕ → ℕ
+resultOf cause reached = 256 * cause + reached
+
+abbrev pub hosted : Called → Hosted
+hosted r = record { result = resultOf (r .cause) (r .reached); main = r .main; store = r .store; unit = recordBytes (r .unit); answers = r .answers }
+
+unfoldable pub hostCallOf : ℕ → List ℕ → List ℕ → List ℕ → List ℕ → List ℕ → Hosted
+hostCallOf size chain main store unit answers =
+    let cause = firstOf (hostCauses size chain main store unit answers) in
+    pick (cause =? 0) (hosted (callOf size chain main store (recordOf unit) answers))
+    (record { result = resultOf cause 0; main = main; store = store; unit = unit; answers = answers })
+
+abbrev pub hostCall : List ℕ → List ℕ → List ℕ → List ℕ → List ℕ → Hosted
+hostCall = hostCallOf classA

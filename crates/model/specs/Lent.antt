@@ -1,0 +1,76 @@
+-- What is lent (01, What is lent), and how each of it is reached.
+--     ccwAt                   a CCW of the chain, taken apart
+--     flag                    a flag of a CCW is on
+--     fetched, delivered      bytes from, and to, a command's data area in main storage
+--     blockStart              where a block of the store begins; blocks are reached by this and by nothing else
+--     blockCount              the device's blocks
+--     blocksFrom, blocksInto  some blocks from one on: as READ sees them, and as WRITE leaves them
+--     recordBytes, recordOf   the unit record and its 34 bytes
+-- `size` is the block size, 512 in every call of today. Assumes nothing.
+use Prim.Native.Nat.{ℕ, zero, suc, _+_, _*_, _/_}
+use mathlib.Core.Bool.{Bool}
+use mathlib.Core.List.{List, [], _∷_, _++_}
+use lib.ListN.{length, getD, drop}
+use Rattle.numbers.specs.Bits.{bit}
+use Rattle.numbers.specs.Big.{be2, be3}
+use Rattle.moves.specs.Parts.{part, put, pad, zeros}
+use Rattle.model.specs.declared.ccw.Ccw.{Ccw}
+use Rattle.model.specs.declared.record.Record.{Record}
+
+-- Chain: 8 bytes per CCW. Byte 0 command, 1-3 data address, 4 flags, 5 ignored, 6-7 count
+abbrev pub ccwSize : ℕ
+ccwSize = 8
+
+unfoldable pub ccwAt : List ℕ → ℕ → Ccw
+ccwAt chain i =
+    let at = i * ccwSize in
+    record { command = getD chain at 0; address = be3 chain (at + 1); flags = record { 0 = getD chain (at + 4) 0 }; count = be2 chain (at + 6) }
+
+unfoldable pub flag : Ccw → ℕ → Bool
+flag c n = bit (c .flags .0) n
+
+-- Main storage: "A command's data area is its count of bytes from its address"
+unfoldable pub fetched : Ccw → List ℕ → ℕ → List ℕ
+fetched c main n = part main (c .address) n
+
+unfoldable pub delivered : Ccw → List ℕ → List ℕ → List ℕ
+delivered c main bytes = put main (c .address) bytes
+
+-- Store: "A block is the 512 bytes that begin at 512 times its number"
+module _ (size : ℕ) where
+  unfoldable pub blockStart : ℕ → ℕ
+  blockStart block = block * size
+
+  unfoldable pub blockCount : List ℕ → ℕ
+  blockCount store = length store / size
+
+  -- n blocks from one on, in a row
+  unfoldable pub blocksFrom : List ℕ → ℕ → ℕ → List ℕ
+  blocksFrom store block zero = []
+  blocksFrom store block (suc n) = part store (blockStart block) size ++ blocksFrom store (block + 1) n
+
+  -- the store with n blocks from one on made of these bytes, in turn, and of zeros where they run out
+  unfoldable pub blocksInto : List ℕ → ℕ → ℕ → List ℕ → List ℕ
+  blocksInto store block zero bytes = store
+  blocksInto store block (suc n) bytes = blocksInto (put store (blockStart block) (pad size bytes)) (block + 1) n (drop size bytes)
+
+-- Unit record: sense (24), blocks read (3), blocks written with check (3), access movements (2), ready (1), read-only (1)
+abbrev pub recordSize : ℕ
+recordSize = 34
+
+unfoldable pub recordBytes : Record → List ℕ
+recordBytes u = u .sense ++ u .«blocks_read» ++ u .«blocks_written» ++ u .movements ++ (u .ready ∷ u .«read_only» ∷ [])
+
+unfoldable pub recordOf : List ℕ → Record
+recordOf l = record
+  { sense = part l 0 24
+  ; «blocks_read» = part l 24 3
+  ; «blocks_written» = part l 27 3
+  ; movements = part l 30 2
+  ; ready = getD l 32 0
+  ; «read_only» = getD l 33 0 }
+
+-- "sense and counts with zero": the record of a new unit
+unfoldable pub newRecord : ℕ → ℕ → Record
+newRecord ready readOnly = record
+  { sense = zeros 24; «blocks_read» = zeros 3; «blocks_written» = zeros 3; movements = zeros 2; ready = ready; «read_only» = readOnly }

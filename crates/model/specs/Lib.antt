@@ -1,0 +1,11 @@
+pub mod Names
+pub mod Rules
+pub mod Lent
+pub mod Parameters
+pub mod Causes
+pub mod Sense
+pub mod Log
+pub mod Commands
+pub mod Answer
+pub mod Chain
+pub mod Host

@@ -1,0 +1,102 @@
+-- The numbers that the papers give names to. Hexadecimal where the papers are.
+--     commands            01, The unit and its edges; 002, 2.0
+--     flags of a CCW      01, What is lent
+--     unit status         01, Causes; 002, 1.9
+--     channel status      01, Causes and Commands that are accepted
+--     operations          01, LOCATE; 002, 2.1.4
+--     places in sense     002, 5.1 and 5.2
+--     places in the log   01, READ AND RESET BUFFERED LOG; 002, 5.8.1
+-- Assumes nothing.
+use Prim.Native.Nat.{ℕ}
+
+-- commands
+
+abbrev pub NO-OPERATION : ℕ
+NO-OPERATION = 0x03
+
+abbrev pub DEFINE-EXTENT : ℕ
+DEFINE-EXTENT = 0x63
+
+abbrev pub LOCATE : ℕ
+LOCATE = 0x43
+
+abbrev pub READ : ℕ
+READ = 0x42
+
+abbrev pub WRITE : ℕ
+WRITE = 0x41
+
+abbrev pub READ-IPL : ℕ
+READ-IPL = 0x02
+
+abbrev pub SENSE : ℕ
+SENSE = 0x04
+
+abbrev pub SENSE-TYPE : ℕ
+SENSE-TYPE = 0xE4
+
+abbrev pub READ-LOG : ℕ
+READ-LOG = 0xA4
+
+-- flags of a CCW, as bits of its byte 4: 40 and 20
+
+abbrev pub chain-command : ℕ
+chain-command = 1
+
+abbrev pub suppress-length : ℕ
+suppress-length = 2
+
+-- unit status: CHANNEL END with DEVICE END, and the same with UNIT CHECK
+
+abbrev pub ENDED : ℕ
+ENDED = 0x0C
+
+abbrev pub UNIT-CHECKED : ℕ
+UNIT-CHECKED = 0x0E
+
+-- channel status
+
+abbrev pub PROGRAM-CHECK : ℕ
+PROGRAM-CHECK = 0x20
+
+abbrev pub INCORRECT-LENGTH : ℕ
+INCORRECT-LENGTH = 0x40
+
+-- operations of a LOCATE
+
+abbrev pub format : ℕ
+format = 4
+
+abbrev pub write-data : ℕ
+write-data = 1
+
+abbrev pub write-check : ℕ
+write-check = 5
+
+abbrev pub read-data : ℕ
+read-data = 6
+
+abbrev pub read-replicated : ℕ
+read-replicated = 2
+
+-- places in the 24 sense bytes
+
+abbrev pub environmental-at : ℕ
+environmental-at = 2
+
+abbrev pub format-at : ℕ
+format-at = 7
+
+abbrev pub parameters-at : ℕ
+parameters-at = 8
+
+-- places in the 24 bytes of the log
+
+abbrev pub blocks-read-at : ℕ
+blocks-read-at = 8
+
+abbrev pub blocks-written-at : ℕ
+blocks-written-at = 15
+
+abbrev pub movements-at : ℕ
+movements-at = 19

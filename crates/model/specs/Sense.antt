@@ -1,0 +1,57 @@
+-- The sense bytes of each cause (01, Causes; 002, 5.1 to 5.3). docs/SENSE.md says why each is what it is.
+--     senseTable   bytes 0, 1 and 7 of each unit check: one table
+--     senseOf      the 24 bytes of a refusal
+-- Assumes nothing.
+use Prim.Native.Nat.{ℕ}
+use mathlib.Core.List.{List, [], _∷_}
+use Rattle.moves.specs.Parts.{zeros, put}
+use Rattle.model.specs.Names.{format-at, parameters-at}
+use Rattle.model.specs.Rules.{_=?_, pick}
+
+pub record SenseRow : Type 0 where
+  pub cause : ℕ
+  pub byte0 : ℕ
+  pub byte1 : ℕ
+  pub byte7 : ℕ
+
+abbrev row : ℕ → ℕ → ℕ → ℕ → SenseRow
+row cause byte0 byte1 byte7 = record { cause = cause; byte0 = byte0; byte1 = byte1; byte7 = byte7 }
+
+-- cause, byte 0, byte 1, byte 7 (format and message). 002 overrules 01 at 37 (5.1) and at 39 (5.1, 5.2)
+abbrev pub senseTable : List SenseRow
+senseTable =
+    row 20 0x80 0x00 0x03
+    ∷ row 21 0x80 0x00 0x02
+    ∷ row 22 0x80 0x00 0x04
+    ∷ row 23 0x80 0x00 0x04
+    ∷ row 24 0x80 0x40 0x04
+    ∷ row 25 0x80 0x00 0x04
+    ∷ row 26 0x80 0x00 0x04
+    ∷ row 30 0x80 0x00 0x02
+    ∷ row 31 0x80 0x00 0x03
+    ∷ row 32 0x80 0x00 0x04
+    ∷ row 33 0x80 0x00 0x04
+    ∷ row 34 0x80 0x00 0x04
+    ∷ row 35 0x80 0x00 0x04
+    ∷ row 36 0x80 0x04 0x04
+    ∷ row 37 0x80 0x00 0x04
+    ∷ row 38 0x80 0x02 0x00
+    ∷ row 39 0x80 0x01 0x0C
+    ∷ row 40 0x80 0x00 0x02
+    ∷ row 41 0x80 0x00 0x02
+    ∷ row 42 0x80 0x00 0x02
+    ∷ row 43 0x80 0x00 0x01
+    ∷ row 44 0x40 0x00 0x10
+    ∷ []
+
+-- the row of a cause; zeros for a cause that has none
+unfoldable pub rowIn : List SenseRow → ℕ → SenseRow
+rowIn [] cause = row cause 0 0 0
+rowIn (r ∷ rs) cause = pick (r .cause =? cause) r (rowIn rs cause)
+
+-- Bytes 0, 1 and 7 by the table; 8-15 the LOCATE's eight bytes for 39 (002, 5.2); all others zero
+unfoldable pub senseOf : ℕ → List ℕ → List ℕ
+senseOf cause parameters =
+    let r = rowIn senseTable cause in
+    put (put (put (zeros 24) 0 (r .byte0 ∷ r .byte1 ∷ [])) format-at (r .byte7 ∷ []))
+      parameters-at (pick (cause =? 39) parameters (zeros 8))

@@ -1,0 +1,98 @@
+-- Laws of `zeros`, `part`, `put` and `pad`: their lengths, what is read at a place, and that bytes stay bytes.
+-- No contract cites this file.
+use Prim.Native.Nat.{ℕ, zero, suc, _+_, _-_, _≤_, _<_, min}
+use mathlib.Core.Path.{_≡_, refl, sym, ap, _∙_}
+use mathlib.Core.Bool.{Bool, true, false}
+use mathlib.Core.List.{List, [], _∷_, _++_}
+use native.Mathlib.Omega.{arith}
+use lib.Dec.{ltb}
+use lib.ListN.{length, getD, take, drop, replicate, length-append, length-take, length-drop, length-replicate, List·getD-append}
+use lib.Seq.{length-take-le, getD-take, getD-drop, getD-append-add}
+use borrow.Author.Tests.{ltb-true, ltb-false}
+use Rattle.numbers.specs.Bytes.{AreBytes}
+use Rattle.numbers.proofs.Bytes.{bytes-nil, bytes-cons, bytes-append, bytes-take, bytes-drop}
+use Rattle.moves.specs.Parts.{zeros, part, put, pad}
+
+-- lengths
+
+pub length-zeros : (n : ℕ) → length (zeros n) ≡ n
+unfolding zeros
+length-zeros n = length-replicate n 0
+
+pub length-part : (l : List ℕ) (at n : ℕ) → at + n ≤ length l → length (part l at n) ≡ n
+unfolding part
+length-part l at n h = simp (length-take, length-drop) (omega arith)
+
+pub length-put : (l : List ℕ) (at : ℕ) (bytes : List ℕ) → at + length bytes ≤ length l → length (put l at bytes) ≡ length l
+unfolding put
+length-put l at bytes h = simp (length-append, length-take, length-drop) (omega arith)
+
+pub length-pad : (n : ℕ) (bytes : List ℕ) → length (pad n bytes) ≡ n
+unfolding pad
+length-pad n bytes = simp (length-append, length-take, length-zeros) (omega arith)
+
+-- what is read at a place before, in and after the bytes that were put
+
+pub get-before : (l : List ℕ) (at : ℕ) (bytes : List ℕ) (i : ℕ) → at + length bytes ≤ length l → i < at → getD (put l at bytes) i 0 ≡ getD l i 0
+unfolding put
+get-before l at bytes i h k =
+    let e : length (take at l) ≡ at = length-take-le at l (omega arith) in
+    List·getD-append (take at l ++ bytes) (drop (at + length bytes) l) 0 i (simp (length-append, e) (omega arith))
+    ∙ List·getD-append (take at l) bytes 0 i (omega arith)
+    ∙ getD-take at l i 0 k
+
+pub get-in : (l : List ℕ) (at : ℕ) (bytes : List ℕ) (i : ℕ) → at + length bytes ≤ length l → i < length bytes → getD (put l at bytes) (at + i) 0 ≡ getD bytes i 0
+unfolding put
+get-in l at bytes i h k =
+    let e : length (take at l) ≡ at = length-take-le at l (omega arith) in
+    List·getD-append (take at l ++ bytes) (drop (at + length bytes) l) 0 (at + i) (simp (length-append, e) (omega arith))
+    ∙ ap (λ (j : ℕ). getD (take at l ++ bytes) (j + i) 0) (sym e)
+    ∙ getD-append-add (take at l) bytes i 0
+
+pub get-after : (l : List ℕ) (at : ℕ) (bytes : List ℕ) (i : ℕ) → at + length bytes ≤ length l → at + length bytes ≤ i → getD (put l at bytes) i 0 ≡ getD l i 0
+unfolding put
+get-after l at bytes i h k =
+    let front : List ℕ = take at l ++ bytes in
+    let j : ℕ = i - (at + length bytes) in
+    let e : length front ≡ at + length bytes = length-append (take at l) bytes ∙ ap (λ (n : ℕ). n + length bytes) (length-take-le at l (omega arith)) in
+    let f : i ≡ at + length bytes + j = omega arith in
+    ap (λ (n : ℕ). getD (front ++ drop (at + length bytes) l) n 0) (f ∙ ap (λ (n : ℕ). n + j) (sym e))
+    ∙ getD-append-add front (drop (at + length bytes) l) j 0
+    ∙ getD-drop (at + length bytes) l j 0
+    ∙ ap (λ (n : ℕ). getD l n 0) (sym f)
+
+-- a place is one of the three
+pub by-place : (P : Type 0) (i at n : ℕ) → (i < at → P) → ((j : ℕ) → j < n → i ≡ at + j → P) → (at + n ≤ i → P) → P
+by-place P i at n before inside after = go (ltb i at) (ltb i (at + n)) refl refl
+  where
+    go : (a b : Bool) → ltb i at ≡ a → ltb i (at + n) ≡ b → P
+    go true true p q = before (ltb-true i at p)
+    go true false p q = before (ltb-true i at p)
+    go false true p q =
+        let u = ltb-false i at p in
+        let v = ltb-true i (at + n) q in
+        inside (i - at) (omega arith) (omega arith)
+    go false false p q = after (ltb-false i (at + n) q)
+
+pub get-part : (l : List ℕ) (at n i : ℕ) → i < n → getD (part l at n) i 0 ≡ getD l (at + i) 0
+unfolding part
+get-part l at n i h = getD-take n (drop at l) i 0 h ∙ getD-drop at l i 0
+
+-- bytes stay bytes
+
+pub bytes-zeros : (n : ℕ) → AreBytes (zeros n)
+unfolding zeros
+bytes-zeros zero = bytes-nil
+bytes-zeros (suc n) = bytes-cons 0 _ (omega arith) (bytes-zeros n)
+
+pub bytes-part : (l : List ℕ) (at n : ℕ) → AreBytes l → AreBytes (part l at n)
+unfolding part
+bytes-part l at n p = bytes-take n (drop at l) (bytes-drop at l p)
+
+pub bytes-put : (l : List ℕ) (at : ℕ) (bytes : List ℕ) → AreBytes l → AreBytes bytes → AreBytes (put l at bytes)
+unfolding put
+bytes-put l at bytes p q = bytes-append _ _ (bytes-append _ _ (bytes-take at l p) q) (bytes-drop (at + length bytes) l p)
+
+pub bytes-pad : (n : ℕ) (bytes : List ℕ) → AreBytes bytes → AreBytes (pad n bytes)
+unfolding pad
+bytes-pad n bytes p = bytes-append _ _ (bytes-take n bytes p) (bytes-zeros (n - length bytes))

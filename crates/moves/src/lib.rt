@@ -1,0 +1,1 @@
+// How bytes move: definitions and laws, no code yet.

@@ -1,0 +1,1 @@
+// How bytes are numbers: definitions and laws, no code yet.
