@@ -119,7 +119,7 @@ pub record SameSizes (main store answers : List ℕ) (r : Called) : Type 0 where
   pub store-length : length (r .store) ≡ length store
   pub answers-length : length (r .answers) ≡ length answers
 
-some-block : (size : ℕ) (store : List ℕ) → (length store ≡ 0 → ⊥) → length store % size ≡ 0 → 0 < blockCount size store
+pub some-block : (size : ℕ) (store : List ℕ) → (length store ≡ 0 → ⊥) → length store % size ≡ 0 → 0 < blockCount size store
 unfolding blockCount
 some-block size store n e = go (length store / size) refl
   where

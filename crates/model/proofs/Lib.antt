@@ -5,4 +5,8 @@ pub mod Refusals
 pub mod Endings
 pub mod Safety
 pub mod Lengths
+pub mod Fields
+pub mod Kept
+pub mod Records
+pub mod Hosts
 pub mod Worked

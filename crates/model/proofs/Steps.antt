@@ -85,6 +85,22 @@ module _ (size : ℕ) (c : Ccw) (s : State) (main store : List ℕ) where
   unfolding ownCauses pick
   own-write e = rw e
 
+  -- what holds of each command's own table, and of an empty one, holds of the one that the command has
+  pub own-cases : (P : List Rule → Type 0)
+      → (c .command ≡ DEFINE-EXTENT → P (defineExtentCauses size (blockCount size store) c s (fetched c main extentLength)))
+      → (c .command ≡ LOCATE → P (locateCauses c s (fetched c main locateLength)))
+      → (c .command ≡ READ-IPL → P (readIplCauses s))
+      → (c .command ≡ READ → P (transferCauses reads s))
+      → (c .command ≡ WRITE → P (transferCauses writes s))
+      → P [] → P (ownCauses size c s main store)
+  unfolding ownCauses
+  own-cases P d l i r w n =
+      pick-ind P _ _ _ (λ b. d (eqb-true _ _ b)) (λ _.
+      pick-ind P _ _ _ (λ b. l (eqb-true _ _ b)) (λ _.
+      pick-ind P _ _ _ (λ b. i (eqb-true _ _ b)) (λ _.
+      pick-ind P _ _ _ (λ b. r (eqb-true _ _ b)) (λ _.
+      pick-ind P _ _ _ (λ b. w (eqb-true _ _ b)) (λ _. n)))))
+
   -- what an accepted command does, by the command
 
   pub accepted-no-operation : c .command ≡ NO-OPERATION → accepted size c s main store ≡ noOperation s main store

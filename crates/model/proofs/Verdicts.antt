@@ -2,10 +2,14 @@
 --     Failed        no rule of a table holds
 --     absent        a table has no line for this cause: a test that antt computes
 --     failed-upto   a verdict that the front of a table does not give: no rule there holds, and the rest gives it
---     first-given   the cause of a rule that holds after rules that do not is the verdict
+--     none-given    where no rule holds the verdict is 0
+--     never-given   a cause that no line of a table has is not its verdict
+--     first-given     the cause of a rule that holds after rules that do not is the verdict
+--     given-exactly   both ways at once: what "given exactly when" says
 -- No contract cites this file.
 use Prim.Native.Nat.{ℕ, zero, suc}
 use mathlib.Core.Path.{_≡_, refl, sym, _∙_}
+use mathlib.Core.Logic.{_↔_}
 use mathlib.Core.Bool.{Bool, true, false, not, _&&_, _||_, true≢false, false≢true}
 use mathlib.Core.List.{List, [], _∷_, _++_, append-nil}
 use borrow.Author.Tests.{eqb-false, not-true}
@@ -51,7 +55,31 @@ failed-upto w (r ∷ rs) qs a e =
 pub failed-all : (w : ℕ) (rs : List Rule) → absent w rs ≡ true → firstOf rs ≡ w → Failed rs
 failed-all w rs a e = failed-upto w rs [] a (rw append-nil e) .0
 
-pub first-given : (rs qs : List Rule) (w : ℕ) → Failed rs → firstOf (rs ++ w when true ∷ qs) ≡ w
+pub none-given : (rs : List Rule) → Failed rs → firstOf rs ≡ 0
 unfolding firstOf pick
-first-given [] qs w f = refl
-first-given (r ∷ rs) qs w f = rw (f .0) (first-given rs qs w (f .1))
+none-given [] f = refl
+none-given (r ∷ rs) f = rw (f .0) (none-given rs (f .1))
+
+pub never-given : (w : ℕ) (rs : List Rule) → absent w rs ≡ true → (w ≡ 0 → ⊥) → firstOf rs ≡ w → ⊥
+unfolding firstOf
+never-given w rs a n e = n (sym (failed-upto w rs [] a (rw append-nil e) .1))
+
+pub first-given : (rs qs : List Rule) (w : ℕ) (b : Bool) → Failed rs → b ≡ true → firstOf (rs ++ w when b ∷ qs) ≡ w
+unfolding firstOf pick
+first-given [] qs w b f e = rw e
+first-given (r ∷ rs) qs w b f e = rw (f .0) (first-given rs qs w b (f .1) e)
+
+taken : (t : Bool) (w k : ℕ) → (k ≡ w → ⊥) → pick t w k ≡ w → t ≡ true
+unfolding pick
+taken true w k n e = refl
+taken false w k n e = absurd (n e)
+
+-- "Given exactly when": a cause with one line in a table is the verdict where its rule holds and no rule before it does, and nowhere else
+pub given-exactly : (rs qs : List Rule) (w : ℕ) (b : Bool) → (w ≡ 0 → ⊥) → absent w rs ≡ true → absent w qs ≡ true
+    → firstOf (rs ++ w when b ∷ qs) ≡ w ↔ (Failed rs × (b ≡ true))
+unfolding firstOf
+given-exactly rs qs w b n a c =
+    ( (λ e.
+        let p = failed-upto w rs (w when b ∷ qs) a e in
+        (p .0, taken b w (firstOf qs) (never-given w qs c n) (p .1)))
+    , λ f. first-given rs qs w b (f .0) (f .1))

@@ -7,7 +7,7 @@ use mathlib.Core.List.{List, [], _∷_, _++_}
 use native.Mathlib.Omega.{arith}
 use lib.Dec.{ltb}
 use lib.ListN.{length, getD, take, drop, replicate, length-append, length-take, length-drop, length-replicate, List·getD-append}
-use lib.Seq.{length-take-le, getD-take, getD-drop, getD-append-add}
+use lib.Seq.{length-take-le, take-add, take-at, drop-at, getD-take, getD-drop, getD-append-add}
 use borrow.Author.Tests.{ltb-true, ltb-false}
 use Rattle.numbers.specs.Bytes.{AreBytes}
 use Rattle.numbers.proofs.Bytes.{bytes-nil, bytes-cons, bytes-append, bytes-take, bytes-drop}
@@ -26,6 +26,9 @@ length-part l at n h = simp (length-take, length-drop) (omega arith)
 pub length-put : (l : List ℕ) (at : ℕ) (bytes : List ℕ) → at + length bytes ≤ length l → length (put l at bytes) ≡ length l
 unfolding put
 length-put l at bytes h = simp (length-append, length-take, length-drop) (omega arith)
+
+pub length-put-is : (n : ℕ) (l : List ℕ) (at : ℕ) (bytes : List ℕ) → length l ≡ n → at + length bytes ≤ n → length (put l at bytes) ≡ n
+length-put-is n l at bytes e h = length-put l at bytes (rw e h) ∙ e
 
 pub length-pad : (n : ℕ) (bytes : List ℕ) → length (pad n bytes) ≡ n
 unfolding pad
@@ -77,6 +80,16 @@ by-place P i at n before inside after = go (ltb i at) (ltb i (at + n)) refl refl
 pub get-part : (l : List ℕ) (at n i : ℕ) → i < n → getD (part l at n) i 0 ≡ getD l (at + i) 0
 unfolding part
 get-part l at n i h = getD-take n (drop at l) i 0 h ∙ getD-drop at l i 0
+
+-- a part that was put between two others
+pub part-between : (p q r : List ℕ) (at n : ℕ) → length p ≡ at → length q ≡ n → part (p ++ (q ++ r)) at n ≡ q
+unfolding part
+part-between p q r at n e f = rw (drop-at p (q ++ r) at e) (take-at q r n f)
+
+-- what stands before a part, and the part
+pub take-part : (l : List ℕ) (at n : ℕ) → take at l ++ part l at n ≡ take (at + n) l
+unfolding part
+take-part l at n = sym (take-add at n l)
 
 -- bytes stay bytes
 

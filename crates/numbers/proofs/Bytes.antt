@@ -1,8 +1,12 @@
 -- Laws of `AreBytes`: lists made of bytes are of bytes. No contract cites this file.
 use Prim.Native.Nat.{ℕ, zero, suc, _<_}
+use mathlib.Core.Path.{_≡_, refl}
+use mathlib.Core.Bool.{Bool, true, false, _&&_, false≢true}
 use mathlib.Core.List.{List, [], _∷_, _++_}
 use native.Mathlib.Omega.{arith}
+use lib.Dec.{ltb}
 use lib.ListN.{getD, take, drop}
+use borrow.Author.Tests.{ltb-true}
 use Rattle.numbers.specs.Bytes.{AreBytes}
 
 pub bytes-nil : AreBytes []
@@ -35,3 +39,16 @@ unfolding AreBytes
 byte-at [] i p = omega arith
 byte-at (b ∷ l) zero p = p .0
 byte-at (b ∷ l) (suc i) p = byte-at l i (p .1)
+
+-- a list that is written out is tested, and antt computes the test
+abbrev pub allBelow : ℕ → List ℕ → Bool
+allBelow n [] = true
+allBelow n (b ∷ l) = ltb b n && allBelow n l
+
+pub bytes-tested : (l : List ℕ) → allBelow 256 l ≡ true → AreBytes l
+bytes-tested [] e = bytes-nil
+bytes-tested (b ∷ l) e = let p = both (ltb b 256) (allBelow 256 l) e in bytes-cons b l (ltb-true b 256 (p .0)) (bytes-tested l (p .1))
+  where
+    both : (s t : Bool) → s && t ≡ true → (s ≡ true) × (t ≡ true)
+    both true t e = (refl, e)
+    both false t e = absurd (false≢true e)

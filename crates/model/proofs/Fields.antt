@@ -1,0 +1,270 @@
+-- Bytes stay bytes, and counts fit their fields.
+--     IsRecord      a unit record: each field of its length, and of bytes
+--     step-fields   one command: record, main storage and store stay bytes; the numbers of its answer fit theirs
+--     call-bytes    the call: all that was bytes stays so
+-- Assumes nothing.
+use Prim.Native.Nat.{ℕ, zero, suc, _+_, _-_, _*_, _/_, _≤_, _<_, min}
+use mathlib.Core.Path.{_≡_, refl, sym, ap, _∙_}
+use mathlib.Core.Bool.{Bool, true, false, not, _&&_}
+use mathlib.Core.List.{List, [], _∷_, _++_, append-nil}
+use lib.ListN.{length, getD, take, drop}
+use native.Mathlib.Nat.{mul-le-mul-left, div-lt-iff-lt-mul}
+use native.Mathlib.Omega.{arith}
+use borrow.Author.Tests.{eqb-true, eqb-false, ltb-true, ltb-false}
+use Rattle.numbers.specs.Bytes.{AreBytes}
+use Rattle.numbers.specs.Big.{be2, be3, bytes2, bytes3}
+use Rattle.numbers.proofs.Bytes.{bytes-nil, bytes-cons, bytes-append, bytes-take, bytes-drop, bytes-tested}
+use Rattle.numbers.proofs.Big.{bytes2-are, bytes3-are, bytes2-hold, bytes3-hold, be2-fits}
+use Rattle.moves.specs.Parts.{zeros, part, put, pad}
+use Rattle.moves.proofs.Laws.{length-zeros, length-part, length-put-is, bytes-zeros, bytes-part, bytes-put, bytes-pad}
+use Rattle.model.specs.declared.ccw.Ccw.{Ccw}
+use Rattle.model.specs.declared.record.Record.{Record}
+use Rattle.model.specs.declared.state.State.{State}
+use Rattle.model.specs.declared.state.Done.{Done}
+use Rattle.model.specs.Names.{NO-OPERATION, DEFINE-EXTENT, LOCATE, READ, WRITE, READ-IPL, format-at, parameters-at}
+use Rattle.model.specs.Rules.{_<?_, _=?_, pick, Rule, _when_, firstOf}
+use Rattle.model.specs.Lent.{ccwAt, fetched, delivered, blockStart, blockCount, blocksFrom, blocksInto}
+use Rattle.model.specs.Parameters.{extentLength, locateLength, reads, writes}
+use Rattle.model.specs.Causes.{channelCauses, unitCauses, defineExtentCauses, locateCauses, readIplCauses, transferCauses, ownCauses, causesOf, verdict}
+use Rattle.model.specs.Sense.{SenseRow, senseTable, rowIn, senseOf}
+use Rattle.model.specs.Log.{withSense, withCounts, added3, added2, readCounted, writtenCounted, movementCounted, logOf, logReset}
+use Rattle.model.specs.Commands.{Out, out, noOperation, defineExtent, locate, sent, sense, senseType, readLog, begun, read, write, readIpl, refused, seen, after, extentSet, locateSet, step}
+use Rattle.model.specs.Answer.{unitStatus, channelStatus, residual, answerOf}
+use Rattle.model.proofs.Picks.{pick-ind}
+use Rattle.model.proofs.Verdicts.{absent, peel, never-given, both-true}
+use Rattle.model.proofs.Safety.{define-ok, locate-ok}
+use Rattle.model.proofs.Steps.{Admitted, past-channel, own-cases, Cases, step-cases}
+
+-- the unit record
+
+pub record IsRecord (u : Record) : Type 0 where
+  pub sense-length : length (u .sense) ≡ 24
+  pub read-length : length (u .«blocks_read») ≡ 3
+  pub written-length : length (u .«blocks_written») ≡ 3
+  pub movements-length : length (u .movements) ≡ 2
+  pub sense-bytes : AreBytes (u .sense)
+  pub read-bytes : AreBytes (u .«blocks_read»)
+  pub written-bytes : AreBytes (u .«blocks_written»)
+  pub movements-bytes : AreBytes (u .movements)
+  pub ready-byte : u .ready < 256
+  pub read-only-byte : u .«read_only» < 256
+
+sense-record : (u : Record) (l : List ℕ) → length l ≡ 24 → AreBytes l → IsRecord u → IsRecord (withSense u l)
+unfolding withSense
+sense-record u l e b r = record
+  { sense-length = e; read-length = r .read-length; written-length = r .written-length; movements-length = r .movements-length
+  ; sense-bytes = b; read-bytes = r .read-bytes; written-bytes = r .written-bytes; movements-bytes = r .movements-bytes
+  ; ready-byte = r .ready-byte; read-only-byte = r .read-only-byte }
+
+-- three counts of the right length, and of bytes
+record AreCounts (read written movements : List ℕ) : Type 0 where
+  read-length : length read ≡ 3
+  written-length : length written ≡ 3
+  movements-length : length movements ≡ 2
+  read-bytes : AreBytes read
+  written-bytes : AreBytes written
+  movements-bytes : AreBytes movements
+
+counts-record : (u : Record) (read written movements : List ℕ) → AreCounts read written movements → IsRecord u → IsRecord (withCounts u read written movements)
+unfolding withCounts
+counts-record u read written movements k r = record
+  { sense-length = r .sense-length; read-length = k .read-length; written-length = k .written-length; movements-length = k .movements-length
+  ; sense-bytes = r .sense-bytes; read-bytes = k .read-bytes; written-bytes = k .written-bytes; movements-bytes = k .movements-bytes
+  ; ready-byte = r .ready-byte; read-only-byte = r .read-only-byte }
+
+read-counted-record : (n : ℕ) (u : Record) → IsRecord u → IsRecord (readCounted n u)
+unfolding readCounted added3
+read-counted-record n u r = counts-record u _ _ _ (record
+  { read-length = refl; written-length = r .written-length; movements-length = r .movements-length
+  ; read-bytes = bytes3-are _; written-bytes = r .written-bytes; movements-bytes = r .movements-bytes }) r
+
+written-counted-record : (n : ℕ) (u : Record) → IsRecord u → IsRecord (writtenCounted n u)
+unfolding writtenCounted added3
+written-counted-record n u r = counts-record u _ _ _ (record
+  { read-length = r .read-length; written-length = refl; movements-length = r .movements-length
+  ; read-bytes = r .read-bytes; written-bytes = bytes3-are _; movements-bytes = r .movements-bytes }) r
+
+movement-counted-record : (u : Record) → IsRecord u → IsRecord (movementCounted u)
+unfolding movementCounted added2
+movement-counted-record u r = counts-record u _ _ _ (record
+  { read-length = r .read-length; written-length = r .written-length; movements-length = refl
+  ; read-bytes = r .read-bytes; written-bytes = r .written-bytes; movements-bytes = bytes2-are _ }) r
+
+log-reset-record : (u : Record) → IsRecord u → IsRecord (logReset u)
+unfolding logReset
+log-reset-record u r = counts-record u _ _ _ (record
+  { read-length = length-zeros 3; written-length = length-zeros 3; movements-length = length-zeros 2
+  ; read-bytes = bytes-zeros 3; written-bytes = bytes-zeros 3; movements-bytes = bytes-zeros 2 }) r
+
+-- the sense of a refusal
+
+small-rows : List SenseRow → Bool
+small-rows [] = true
+small-rows (r ∷ rs) = (r .byte0 <? 256 && r .byte1 <? 256 && r .byte7 <? 256) && small-rows rs
+
+record IsRow (r : SenseRow) : Type 0 where
+  byte0 : r .byte0 < 256
+  byte1 : r .byte1 < 256
+  byte7 : r .byte7 < 256
+
+row-in : (rs : List SenseRow) → small-rows rs ≡ true → (w : ℕ) → IsRow (rowIn rs w)
+unfolding rowIn small-rows
+row-in [] e w = record { byte0 = omega arith; byte1 = omega arith; byte7 = omega arith }
+row-in (r ∷ rs) e w =
+    let p = both-true _ _ e in
+    let q = both-true _ _ (p .0) in
+    let t = both-true _ _ (q .0) in
+    pick-ind IsRow _ _ _
+    (λ _. record { byte0 = ltb-true _ _ (t .0); byte1 = ltb-true _ _ (t .1); byte7 = ltb-true _ _ (q .1) })
+    (λ _. row-in rs (p .1) w)
+
+sense-bytes : (w : ℕ) (p : List ℕ) → AreBytes p → AreBytes (senseOf w p)
+unfolding senseOf small-rows
+sense-bytes w p b =
+    let r = row-in senseTable refl w in
+    bytes-put _ _ _ (bytes-put _ _ _ (bytes-put _ _ _ (bytes-zeros 24) (bytes-cons _ _ (r .byte0) (bytes-cons _ _ (r .byte1) bytes-nil)))
+      (bytes-cons _ _ (r .byte7) bytes-nil))
+      (pick-ind AreBytes _ _ _ (λ _. b) (λ _. bytes-zeros 8))
+
+sense-length : (w : ℕ) (p : List ℕ) → (w ≡ 39 → length p ≡ 8) → length (senseOf w p) ≡ 24
+unfolding senseOf
+sense-length w p h =
+    let k : length (pick (w =? 39) p (zeros 8)) ≡ 8 = pick-ind (λ (l : List ℕ). length l ≡ 8) _ _ _ (λ b. h (eqb-true _ _ b)) (λ _. length-zeros 8) in
+    length-put-is 24 _ _ _ (length-put-is 24 _ _ _ (length-put-is 24 _ _ _ (length-zeros 24) (omega arith)) (omega arith)) (rw k (omega arith))
+
+located-long : (c : Ccw) (s : State) (p : List ℕ) → firstOf (locateCauses c s p) ≡ 39 → locateLength ≤ c .count
+unfolding locateCauses firstOf
+located-long c s p e = ltb-false _ _ (peel _ _ _ 39 (λ z. omega arith) (peel _ _ _ 39 (λ z. omega arith) e .1) .0)
+
+-- where the verdict is 39 the command is a LOCATE whose eight bytes were there
+located-bytes : (size : ℕ) (c : Ccw) (s : State) (main store : List ℕ) → verdict size c s main store ≡ 39 → length (fetched c main locateLength) ≡ 8
+unfolding channelCauses unitCauses defineExtentCauses readIplCauses transferCauses fetched
+located-bytes size c s main store e =
+    let p = past-channel size c s main store 39 refl e in
+    let P : List Rule → Type 0 = λ rs. firstOf rs ≡ 39 → length (fetched c main locateLength) ≡ 8 in
+    let other : (rs : List Rule) → absent 39 rs ≡ true → P rs = λ rs a g. absurd (never-given 39 rs a (λ z. omega arith) g) in
+    own-cases size c s main store P (λ _. other _ refl)
+      (λ x g. length-part main (c .address) 8 (omega (arith, located-long c s _ g, p .0 .room (λ z. omega arith))))
+      (λ _. other _ refl) (λ _. other _ refl) (λ _. other _ refl) (other [] refl) (p .1)
+
+-- the causes are bytes too
+
+small-causes : List Rule → Bool
+small-causes [] = true
+small-causes (r ∷ rs) = r .cause <? 256 && small-causes rs
+
+small-first : (rs qs : List Rule) → small-causes rs ≡ true → firstOf qs < 256 → firstOf (rs ++ qs) < 256
+unfolding firstOf small-causes
+small-first [] qs e h = h
+small-first (r ∷ rs) qs e h =
+    let p = both-true _ _ e in
+    pick-ind (λ (n : ℕ). n < 256) _ _ _ (λ _. ltb-true _ _ (p .0)) (λ _. small-first rs qs (p .1) h)
+
+small-all : (rs : List Rule) → small-causes rs ≡ true → firstOf rs < 256
+unfolding firstOf
+small-all rs e = rw append-nil at (small-first rs [] e (omega arith))
+
+verdict-small : (size : ℕ) (c : Ccw) (s : State) (main store : List ℕ) → verdict size c s main store < 256
+unfolding verdict causesOf channelCauses unitCauses defineExtentCauses locateCauses readIplCauses transferCauses small-causes
+verdict-small size c s main store =
+    small-first (channelCauses c main ++ unitCauses c s) (ownCauses size c s main store) refl
+    (own-cases size c s main store (λ rs. firstOf rs < 256)
+      (λ _. small-all _ refl) (λ _. small-all _ refl) (λ _. small-all _ refl) (λ _. small-all _ refl) (λ _. small-all _ refl) (small-all [] refl))
+
+-- blocks
+
+blocks-from-bytes : (size : ℕ) (store : List ℕ) (block n : ℕ) → AreBytes store → AreBytes (blocksFrom size store block n)
+unfolding blocksFrom
+blocks-from-bytes size store block zero b = bytes-nil
+blocks-from-bytes size store block (suc n) b = bytes-append _ _ (bytes-part store _ size b) (blocks-from-bytes size store (block + 1) n b)
+
+blocks-into-bytes : (size : ℕ) (store : List ℕ) (block n : ℕ) (bytes : List ℕ) → AreBytes store → AreBytes bytes → AreBytes (blocksInto size store block n bytes)
+unfolding blocksInto
+blocks-into-bytes size store block zero bytes b d = b
+blocks-into-bytes size store block (suc n) bytes b d =
+    blocks-into-bytes size _ (block + 1) n _ (bytes-put store _ _ b (bytes-pad size bytes d)) (bytes-drop size bytes d)
+
+-- a block that is begun has a byte, so there are no more of them than bytes
+begun-least : (size n k : ℕ) → 1 ≤ size → begun size (min n k) ≤ n
+unfolding begun
+begun-least size n k h =
+    let m : ℕ = min n k in
+    let e : m * 1 ≤ m * size = mul-le-mul-left m h in
+    let l : (m + (size - 1)) / size < m + 1 = div-lt-iff-lt-mul h .1 (omega (arith, e)) in
+    omega (arith, l)
+
+log-bytes : (u : Record) → IsRecord u → AreBytes (logOf u)
+unfolding logOf
+log-bytes u r =
+    bytes-put _ _ _ (bytes-put _ _ _ (bytes-put _ _ _ (bytes-put _ _ _ (bytes-put _ _ _ (bytes-zeros 24)
+      (bytes-tested _ refl)) (bytes-tested _ refl)) (r .read-bytes)) (r .written-bytes)) (r .movements-bytes)
+
+-- one command
+
+pub record Fields (c : Ccw) (o : Out) : Type 0 where
+  pub unit-fields : IsRecord (o .done .state .unit)
+  pub main-bytes : AreBytes (o .main)
+  pub store-bytes : AreBytes (o .store)
+  pub cause-byte : o .done .cause < 256
+  pub moved-fits : o .done .moved ≤ c .count
+  pub blocks-fit : o .done .blocks ≤ c .count
+
+module _ (size : ℕ) (c : Ccw) (s : State) (main store : List ℕ) (h : 1 ≤ size) (r : IsRecord (s .unit)) (m : AreBytes main) (d : AreBytes store) where
+  seen-record : IsRecord (seen c s .unit)
+  unfolding seen after
+  seen-record = pick-ind IsRecord _ _ _ (λ _. r) (λ _. sense-record (s .unit) (zeros 24) (length-zeros 24) (bytes-zeros 24) r)
+
+  refused-fields : (w : ℕ) → verdict size c s main store ≡ w → Fields c (refused c s main store w)
+  unfolding refused after fetched
+  refused-fields w e = record
+    { unit-fields = pick-ind IsRecord _ _ _ (λ _. r)
+        (λ _. sense-record (s .unit) _ (sense-length w _ (λ z. located-bytes size c s main store (e ∙ z))) (sense-bytes w _ (bytes-part main _ _ m)) r)
+    ; main-bytes = m
+    ; store-bytes = d
+    ; cause-byte = rw (← e) (verdict-small size c s main store)
+    ; moved-fits = omega arith
+    ; blocks-fit = omega arith }
+
+  -- a command that moves bytes into its data area, and no block
+  sent-fields : (n : ℕ) (bytes : List ℕ) (u : Record) → AreBytes bytes → IsRecord u → Fields c (sent c (seen c s) main store n bytes u)
+  unfolding sent after delivered
+  sent-fields n bytes u b k = record
+    { unit-fields = k; main-bytes = bytes-put main _ _ m (bytes-take (min (c .count) n) bytes b); store-bytes = d
+    ; cause-byte = omega arith; moved-fits = omega arith; blocks-fit = omega arith }
+
+  fields-cases : Cases size c s main store (Fields c)
+  unfolding noOperation defineExtent locate sense senseType readLog read write readIpl seen after extentSet locateSet fetched delivered
+  fields-cases =
+      let k = seen-record in
+      record
+      { refusal = λ w _ e. refused-fields w e
+      ; no-operation = λ _. record { unit-fields = k; main-bytes = m; store-bytes = d; cause-byte = omega arith; moved-fits = omega arith; blocks-fit = omega arith }
+      ; define-extent = λ _ _ f. record { unit-fields = k; main-bytes = m; store-bytes = d; cause-byte = omega arith; moved-fits = define-ok size _ c s _ f .long; blocks-fit = omega arith }
+      ; locate = λ _ _ f. record { unit-fields = movement-counted-record _ k; main-bytes = m; store-bytes = d; cause-byte = omega arith; moved-fits = locate-ok c s _ f .long; blocks-fit = omega arith }
+      ; read = λ _ _ _. record
+          { unit-fields = read-counted-record _ _ k
+          ; main-bytes = bytes-put main _ _ m (bytes-take (min (c .count) (s .located .blocks * size)) _ (blocks-from-bytes size store _ _ d))
+          ; store-bytes = d
+          ; cause-byte = omega arith
+          ; moved-fits = omega arith
+          ; blocks-fit = begun-least size (c .count) _ h }
+      ; write = λ _ _ _. record
+          { unit-fields = pick-ind IsRecord _ _ _ (λ _. written-counted-record _ _ k) (λ _. k)
+          ; main-bytes = m
+          ; store-bytes = blocks-into-bytes size store _ _ _ d (bytes-part main _ _ m)
+          ; cause-byte = omega arith
+          ; moved-fits = omega arith
+          ; blocks-fit = begun-least size (c .count) _ h }
+      ; read-ipl = λ a _ _. record
+          { unit-fields = movement-counted-record _ (read-counted-record 1 _ k)
+          ; main-bytes = bytes-put main _ _ m (bytes-take (min (c .count) size) _ (blocks-from-bytes size store 0 1 d))
+          ; store-bytes = d
+          ; cause-byte = omega arith
+          ; moved-fits = omega arith
+          ; blocks-fit = a .some }
+      ; sense = λ _ _. sent-fields 24 _ _ (k .sense-bytes) (sense-record _ _ (length-zeros 24) (bytes-zeros 24) k)
+      ; sense-type = λ _ _. sent-fields 7 _ _ (bytes-tested _ refl) k
+      ; read-log = λ _ _. sent-fields 24 _ _ (log-bytes _ k) (log-reset-record _ k) }
+
+  pub step-fields : Fields c (step size c s main store)
+  step-fields = step-cases size c s main store (Fields c) fields-cases

@@ -1,0 +1,70 @@
+-- The call from C.
+--     host-is-call    where none of 1 to 6 holds, it is the call on the unit record that the bytes hold
+--     host-keeps      it keeps the length of each buffer, and bytes bytes
+--     result-reads    the one number holds both: the cause, and the commands reached
+-- Assumes nothing.
+use Prim.Native.Nat.{ℕ, _+_, _*_, _/_, _%_, _≤_, _<_}
+use mathlib.Core.Path.{_≡_, refl, sym, ap, _∙_}
+use mathlib.Core.Bool.{Bool, true, false, not}
+use mathlib.Core.List.{List, [], _∷_, _++_}
+use lib.ListN.{length}
+use native.Mathlib.Omega.{arith}
+use borrow.Author.Tests.{eqb-true, eq-eqb, not-false}
+use Rattle.numbers.specs.Bytes.{AreBytes}
+use Rattle.model.specs.Rules.{_=?_, pick, firstOf}
+use Rattle.model.specs.Lent.{recordSize, recordBytes, recordOf}
+use Rattle.model.specs.Causes.{callCauses, hostCauses}
+use Rattle.model.specs.Chain.{Called, callOf}
+use Rattle.model.specs.Host.{Hosted, resultOf, hosted, hostCallOf}
+use Rattle.model.proofs.Picks.{pick-ind, pick-true}
+use Rattle.model.proofs.Verdicts.{failed-upto, failed-all, none-given}
+use Rattle.model.proofs.Lengths.{call-lengths}
+use Rattle.model.proofs.Fields.{IsRecord}
+use Rattle.model.proofs.Kept.{call-bytes}
+use Rattle.model.proofs.Records.{record-bytes-length, record-bytes, record-of}
+
+pub result-reads : (cause reached : ℕ) → reached < 256 → (resultOf cause reached / 256 ≡ cause) × (resultOf cause reached % 256 ≡ reached)
+unfolding resultOf
+result-reads cause reached h = (omega arith, omega arith)
+
+module _ (size : ℕ) (chain main store unit answers : List ℕ) where
+  -- none of 1 to 6 holds: none of 1 to 5 does, and there are 34 bytes
+  host-passed : firstOf (hostCauses size chain main store unit answers) ≡ 0 → (firstOf (callCauses size chain main store answers) ≡ 0) × (length unit ≡ recordSize)
+  unfolding hostCauses callCauses
+  host-passed e =
+      let f = failed-upto 0 (callCauses size chain main store answers) _ refl e in
+      let g = failed-all 0 _ refl (f .1) in
+      (none-given _ (f .0), eqb-true _ _ (not-false _ (g .0)))
+
+  pub host-is-call : firstOf (hostCauses size chain main store unit answers) ≡ 0
+      → hostCallOf size chain main store unit answers ≡ hosted (callOf size chain main store (recordOf unit) answers)
+  unfolding hostCallOf
+  host-is-call e = pick-true _ _ _ (eq-eqb _ _ e)
+
+pub record HostKeeps (main store unit answers : List ℕ) (r : Hosted) : Type 0 where
+  pub main-length : length (r .main) ≡ length main
+  pub store-length : length (r .store) ≡ length store
+  pub unit-length : length (r .unit) ≡ length unit
+  pub answers-length : length (r .answers) ≡ length answers
+  pub main-bytes : AreBytes (r .main)
+  pub store-bytes : AreBytes (r .store)
+  pub unit-bytes : AreBytes (r .unit)
+  pub answers-bytes : AreBytes (r .answers)
+
+pub host-keeps : (size : ℕ) (chain main store unit answers : List ℕ) → AreBytes chain → AreBytes main → AreBytes store → AreBytes unit → AreBytes answers
+    → HostKeeps main store unit answers (hostCallOf size chain main store unit answers)
+unfolding hostCallOf
+host-keeps size chain main store unit answers b m d u a =
+    pick-ind (HostKeeps main store unit answers) _ _ _
+    (λ e.
+      let p = host-passed size chain main store unit answers (eqb-true _ _ e) in
+      let l = call-lengths size chain main store (recordOf unit) answers in
+      let g = call-bytes size chain main store (recordOf unit) answers b m d (record-of unit (p .1) u) a in
+      record
+      { main-length = l .main-length; store-length = l .store-length; answers-length = l .answers-length
+      ; unit-length = record-bytes-length _ (g .unit-fields) ∙ sym (p .1)
+      ; main-bytes = g .main-bytes; store-bytes = g .store-bytes; answers-bytes = g .answers-bytes
+      ; unit-bytes = record-bytes _ (g .unit-fields) })
+    (λ _. record
+      { main-length = refl; store-length = refl; unit-length = refl; answers-length = refl
+      ; main-bytes = m; store-bytes = d; unit-bytes = u; answers-bytes = a })

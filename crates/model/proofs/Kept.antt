@@ -1,0 +1,115 @@
+-- The call keeps bytes bytes, and each answer holds its numbers whole.
+--     answer-holds   the eight bytes of an answer are bytes; residual and blocks moved are what its two bytes say
+--     IsLent         a unit record, and bytes, in a system
+--     call-bytes     a call that was lent a unit record and bytes gives back a unit record and bytes
+-- Assumes nothing.
+use Prim.Native.Nat.{ℕ, zero, suc, _+_, _-_, _*_, _/_, _≤_, _<_}
+use mathlib.Core.Path.{_≡_, refl, sym, ap, _∙_}
+use mathlib.Core.Bool.{Bool, true, false}
+use mathlib.Core.List.{List, [], _∷_, _++_}
+use lib.ListN.{length, getD}
+use native.Mathlib.Nat.{not-suc-le-zero, div-zero}
+use native.Mathlib.Omega.{arith}
+use borrow.Author.Tests.{eqb-true}
+use Rattle.numbers.specs.Bytes.{AreBytes}
+use Rattle.numbers.specs.Big.{be2, bytes2}
+use Rattle.numbers.proofs.Bytes.{bytes-nil, bytes-cons, bytes-append}
+use Rattle.numbers.proofs.Big.{bytes2-are, bytes2-hold, be2-fits}
+use Rattle.moves.specs.Parts.{put}
+use Rattle.moves.proofs.Laws.{bytes-put}
+use Rattle.model.specs.declared.ccw.Ccw.{Ccw}
+use Rattle.model.specs.declared.record.Record.{Record}
+use Rattle.model.specs.declared.state.State.{State}
+use Rattle.model.specs.declared.state.Done.{Done}
+use Rattle.model.specs.Rules.{pick, firstOf}
+use Rattle.model.specs.Lent.{ccwSize, ccwAt, blockCount}
+use Rattle.model.specs.Causes.{callCauses}
+use Rattle.model.specs.Commands.{step}
+use Rattle.model.specs.Answer.{unitStatus, channelStatus, residual, answerSize, answerOf}
+use Rattle.model.specs.Chain.{System, system, stepAt, next, run, start, Called, called, callOf}
+use Rattle.model.proofs.Picks.{pick-ind}
+use Rattle.model.proofs.Endings.{Callable, callable}
+use Rattle.model.proofs.Lengths.{some-block}
+use Rattle.model.proofs.Fields.{IsRecord, Fields, step-fields}
+
+-- an answer
+
+pub record Holds (c : Ccw) (d : Done) : Type 0 where
+  pub are-bytes : AreBytes (answerOf c d)
+  pub residual-whole : be2 (answerOf c d) 2 ≡ c .count - d .moved
+  pub cause-whole : getD (answerOf c d) 4 0 ≡ d .cause
+  pub blocks-whole : be2 (answerOf c d) 6 ≡ d .blocks
+
+pub answer-holds : (c : Ccw) (d : Done) → c .count < 65536 → d .cause < 256 → d .blocks < 65536 → Holds c d
+unfolding answerOf unitStatus channelStatus residual
+answer-holds c d n w b =
+    let Byte : ℕ → Type 0 = λ k. k < 256 in
+    record
+    { are-bytes =
+        bytes-append _ _ (bytes-append _ _ (bytes-append _ _
+          (bytes-cons _ _ (pick-ind Byte _ _ _ (λ _. omega arith) (λ _. pick-ind Byte _ _ _ (λ _. omega arith) (λ _. omega arith)))
+          (bytes-cons _ _ (pick-ind Byte _ _ _ (λ _. pick-ind Byte _ _ _ (λ _. omega arith) (λ _. omega arith)) (λ _. pick-ind Byte _ _ _ (λ _. omega arith) (λ _. omega arith))) bytes-nil))
+          (bytes2-are _)) (bytes-cons _ _ w (bytes-cons _ _ (omega arith) bytes-nil))) (bytes2-are _)
+    ; residual-whole = bytes2-hold (c .count - d .moved) (omega arith)
+    ; cause-whole = refl
+    ; blocks-whole = bytes2-hold (d .blocks) b }
+
+-- a chain
+
+pub record IsLent (y : System) : Type 0 where
+  pub unit-fields : IsRecord (y .state .unit)
+  pub main-bytes : AreBytes (y .main)
+  pub store-bytes : AreBytes (y .store)
+  pub answers-bytes : AreBytes (y .answers)
+
+count-fits : (chain : List ℕ) (i : ℕ) → AreBytes chain → ccwAt chain i .count < 65536
+unfolding ccwAt
+count-fits chain i b = be2-fits chain _ b
+
+module _ (size : ℕ) (chain : List ℕ) (h : 1 ≤ size) (b : AreBytes chain) where
+  next-bytes : (i : ℕ) (y : System) → IsLent y → IsLent (next size chain i y)
+  unfolding next stepAt
+  next-bytes i y l =
+      let c : Ccw = ccwAt chain i in
+      let f = step-fields size c (y .state) (y .main) (y .store) h (l .unit-fields) (l .main-bytes) (l .store-bytes) in
+      let n = count-fits chain i b in
+      record
+      { unit-fields = f .unit-fields
+      ; main-bytes = f .main-bytes
+      ; store-bytes = f .store-bytes
+      ; answers-bytes = bytes-put (y .answers) _ _ (l .answers-bytes) (answer-holds c _ n (f .cause-byte) (omega (arith, n, f .blocks-fit)) .are-bytes) }
+
+  run-bytes : (n i : ℕ) (y : System) → IsLent y → IsLent (run size chain n i y)
+  unfolding run
+  run-bytes zero i y l = l
+  run-bytes (suc n) i y l =
+      let k = next-bytes i y l in
+      pick-ind IsLent _ _ _ (λ _. run-bytes n (i + 1) (next size chain i y) k) (λ _. k)
+
+-- the call
+
+some-size : (size : ℕ) (store : List ℕ) → 0 < blockCount size store → 1 ≤ size
+unfolding blockCount
+some-size zero store h = absurd (not-suc-le-zero (rw div-zero at h))
+some-size (suc size) store h = omega arith
+
+pub record GivesBytes (r : Called) : Type 0 where
+  pub unit-fields : IsRecord (r .unit)
+  pub main-bytes : AreBytes (r .main)
+  pub store-bytes : AreBytes (r .store)
+  pub answers-bytes : AreBytes (r .answers)
+
+pub call-bytes : (size : ℕ) (chain main store : List ℕ) (u : Record) (answers : List ℕ)
+    → AreBytes chain → AreBytes main → AreBytes store → IsRecord u → AreBytes answers
+    → GivesBytes (callOf size chain main store u answers)
+unfolding callOf start
+call-bytes size chain main store u answers b m d r a =
+    let y : System = system (start u) main store answers 0 in
+    let l : IsLent y = record { unit-fields = r; main-bytes = m; store-bytes = d; answers-bytes = a } in
+    let gives : (z : System) → IsLent z → GivesBytes (called (firstOf (callCauses size chain main store answers)) z)
+        = λ z k. record { unit-fields = k .unit-fields; main-bytes = k .main-bytes; store-bytes = k .store-bytes; answers-bytes = k .answers-bytes } in
+    gives _ (pick-ind IsLent _ _ _
+      (λ e.
+        let k = callable size chain main store answers (eqb-true _ _ e) in
+        run-bytes size chain (some-size size store (some-block size store (k .stored) (k .even))) b (length chain / ccwSize) 0 y l)
+      (λ _. l))
