@@ -9,4 +9,8 @@ pub mod Fields
 pub mod Kept
 pub mod Records
 pub mod Hosts
+pub mod Opened
+pub mod Inputs
 pub mod Worked
+pub mod Overruled
+pub mod WrongUnits
