@@ -37,15 +37,16 @@ callable size chain main store answers e =
     let nonzero = eqb-false (length chain) 0 (q .0) in
     let short = ltb-false 256 (length chain) (q .1) in
     let eights = eqb-true (length chain % ccwSize) 0 (not-false _ (p .1)) in
-    record
-    { some = omega (arith, nonzero)
-    ; few = omega arith
-    ; whole = omega (arith, eights)
-    ; stored = eqb-false _ _ (t .0)
-    ; even = eqb-true _ _ (not-false _ (t .1))
-    ; held = ltb-false _ _ (r .1)
-    ; small = ltb-false _ _ (f .1 .1 .0)
-    ; answered = ltb-false _ _ (f .1 .1 .1 .0) }
+    record {
+      some = omega (arith, nonzero);
+      few = omega arith;
+      whole = omega (arith, eights);
+      stored = eqb-false _ _ (t .0);
+      even = eqb-true _ _ (not-false _ (t .1));
+      held = ltb-false _ _ (r .1);
+      small = ltb-false _ _ (f .1 .1 .0);
+      answered = ltb-false _ _ (f .1 .1 .1 .0);
+    }
 
 -- a run of n commands at most reaches one of them, where there is one, and no more than n
 run-reached : (size : ℕ) (chain : List ℕ) (n i : ℕ) (y : System) → y .reached ≡ i → (i + min 1 n ≤ run size chain n i y .reached) × (run size chain n i y .reached ≤ i + n)
@@ -54,8 +55,8 @@ run-reached size chain zero i y e = (omega arith, omega arith)
 run-reached size chain (suc n) i y e =
     pick-ind (λ (z : System). (i + min 1 (suc n) ≤ z .reached) × (z .reached ≤ i + suc n)) _ _ _
     (λ _.
-      let r = run-reached size chain n (i + 1) (next size chain i y) refl in
-      (omega (arith, r .0), omega (arith, r .1)))
+    let r = run-reached size chain n (i + 1) (next size chain i y) refl in
+    (omega (arith, r .0), omega (arith, r .1)))
     (λ _. (omega arith, omega arith))
 
 pub call-reached : (size : ℕ) (chain main store : List ℕ) (u : Record) (answers : List ℕ)

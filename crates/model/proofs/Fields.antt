@@ -51,10 +51,18 @@ pub record IsRecord (u : Record) : Type 0 where
 
 sense-record : (u : Record) (l : List ℕ) → length l ≡ 24 → AreBytes l → IsRecord u → IsRecord (withSense u l)
 unfolding withSense
-sense-record u l e b r = record
-  { sense-length = e; read-length = r .read-length; written-length = r .written-length; movements-length = r .movements-length
-  ; sense-bytes = b; read-bytes = r .read-bytes; written-bytes = r .written-bytes; movements-bytes = r .movements-bytes
-  ; ready-byte = r .ready-byte; read-only-byte = r .read-only-byte }
+sense-record u l e b r = record {
+  sense-length = e;
+  read-length = r .read-length;
+  written-length = r .written-length;
+  movements-length = r .movements-length;
+  sense-bytes = b;
+  read-bytes = r .read-bytes;
+  written-bytes = r .written-bytes;
+  movements-bytes = r .movements-bytes;
+  ready-byte = r .ready-byte;
+  read-only-byte = r .read-only-byte;
+}
 
 -- three counts of the right length, and of bytes
 record AreCounts (read written movements : List ℕ) : Type 0 where
@@ -67,34 +75,62 @@ record AreCounts (read written movements : List ℕ) : Type 0 where
 
 counts-record : (u : Record) (read written movements : List ℕ) → AreCounts read written movements → IsRecord u → IsRecord (withCounts u read written movements)
 unfolding withCounts
-counts-record u read written movements k r = record
-  { sense-length = r .sense-length; read-length = k .read-length; written-length = k .written-length; movements-length = k .movements-length
-  ; sense-bytes = r .sense-bytes; read-bytes = k .read-bytes; written-bytes = k .written-bytes; movements-bytes = k .movements-bytes
-  ; ready-byte = r .ready-byte; read-only-byte = r .read-only-byte }
+counts-record u read written movements k r = record {
+  sense-length = r .sense-length;
+  read-length = k .read-length;
+  written-length = k .written-length;
+  movements-length = k .movements-length;
+  sense-bytes = r .sense-bytes;
+  read-bytes = k .read-bytes;
+  written-bytes = k .written-bytes;
+  movements-bytes = k .movements-bytes;
+  ready-byte = r .ready-byte;
+  read-only-byte = r .read-only-byte;
+}
 
 read-counted-record : (n : ℕ) (u : Record) → IsRecord u → IsRecord (readCounted n u)
 unfolding readCounted added3
-read-counted-record n u r = counts-record u _ _ _ (record
-  { read-length = refl; written-length = r .written-length; movements-length = r .movements-length
-  ; read-bytes = bytes3-are _; written-bytes = r .written-bytes; movements-bytes = r .movements-bytes }) r
+read-counted-record n u r = counts-record u _ _ _ (record {
+  read-length = refl;
+  written-length = r .written-length;
+  movements-length = r .movements-length;
+  read-bytes = bytes3-are _;
+  written-bytes = r .written-bytes;
+  movements-bytes = r .movements-bytes;
+}) r
 
 written-counted-record : (n : ℕ) (u : Record) → IsRecord u → IsRecord (writtenCounted n u)
 unfolding writtenCounted added3
-written-counted-record n u r = counts-record u _ _ _ (record
-  { read-length = r .read-length; written-length = refl; movements-length = r .movements-length
-  ; read-bytes = r .read-bytes; written-bytes = bytes3-are _; movements-bytes = r .movements-bytes }) r
+written-counted-record n u r = counts-record u _ _ _ (record {
+  read-length = r .read-length;
+  written-length = refl;
+  movements-length = r .movements-length;
+  read-bytes = r .read-bytes;
+  written-bytes = bytes3-are _;
+  movements-bytes = r .movements-bytes;
+}) r
 
 movement-counted-record : (u : Record) → IsRecord u → IsRecord (movementCounted u)
 unfolding movementCounted added2
-movement-counted-record u r = counts-record u _ _ _ (record
-  { read-length = r .read-length; written-length = r .written-length; movements-length = refl
-  ; read-bytes = r .read-bytes; written-bytes = r .written-bytes; movements-bytes = bytes2-are _ }) r
+movement-counted-record u r = counts-record u _ _ _ (record {
+  read-length = r .read-length;
+  written-length = r .written-length;
+  movements-length = refl;
+  read-bytes = r .read-bytes;
+  written-bytes = r .written-bytes;
+  movements-bytes = bytes2-are _;
+}) r
 
 log-reset-record : (u : Record) → IsRecord u → IsRecord (logReset u)
 unfolding logReset
-log-reset-record u r = counts-record u _ _ _ (record
-  { read-length = length-zeros 3; written-length = length-zeros 3; movements-length = length-zeros 2
-  ; read-bytes = bytes-zeros 3; written-bytes = bytes-zeros 3; movements-bytes = bytes-zeros 2 }) r
+log-reset-record u r = counts-record u _ _ _ (record {
+  read-length = length-zeros 3;
+  written-length = length-zeros 3;
+  movements-length = length-zeros 2;
+  read-bytes = bytes-zeros 3;
+  written-bytes = bytes-zeros 3;
+  movements-bytes = bytes-zeros 2;
+}) r
 
 -- the sense of a refusal
 
@@ -123,8 +159,8 @@ unfolding senseOf small-rows
 sense-bytes w p b =
     let r = row-in senseTable refl w in
     bytes-put _ _ _ (bytes-put _ _ _ (bytes-put _ _ _ (bytes-zeros 24) (bytes-cons _ _ (r .byte0) (bytes-cons _ _ (r .byte1) bytes-nil)))
-      (bytes-cons _ _ (r .byte7) bytes-nil))
-      (pick-ind AreBytes _ _ _ (λ _. b) (λ _. bytes-zeros 8))
+    (bytes-cons _ _ (r .byte7) bytes-nil))
+    (pick-ind AreBytes _ _ _ (λ _. b) (λ _. bytes-zeros 8))
 
 sense-length : (w : ℕ) (p : List ℕ) → (w ≡ 39 → length p ≡ 8) → length (senseOf w p) ≡ 24
 unfolding senseOf
@@ -144,8 +180,8 @@ located-bytes size c s main store e =
     let P : List Rule → Type 0 = λ rs. firstOf rs ≡ 39 → length (fetched c main locateLength) ≡ 8 in
     let other : (rs : List Rule) → absent 39 rs ≡ true → P rs = λ rs a g. absurd (never-given 39 rs a (λ z. omega arith) g) in
     own-cases size c s main store P (λ _. other _ refl)
-      (λ x g. length-part main (c .address) 8 (omega (arith, located-long c s _ g, p .0 .room (λ z. omega arith))))
-      (λ _. other _ refl) (λ _. other _ refl) (λ _. other _ refl) (other [] refl) (p .1)
+    (λ x g. length-part main (c .address) 8 (omega (arith, located-long c s _ g, p .0 .room (λ z. omega arith))))
+    (λ _. other _ refl) (λ _. other _ refl) (λ _. other _ refl) (other [] refl) (p .1)
 
 -- the causes are bytes too
 
@@ -169,7 +205,7 @@ unfolding verdict causesOf channelCauses unitCauses defineExtentCauses locateCau
 verdict-small size c s main store =
     small-first (channelCauses c main ++ unitCauses c s) (ownCauses size c s main store) refl
     (own-cases size c s main store (λ rs. firstOf rs < 256)
-      (λ _. small-all _ refl) (λ _. small-all _ refl) (λ _. small-all _ refl) (λ _. small-all _ refl) (λ _. small-all _ refl) (small-all [] refl))
+    (λ _. small-all _ refl) (λ _. small-all _ refl) (λ _. small-all _ refl) (λ _. small-all _ refl) (λ _. small-all _ refl) (small-all [] refl))
 
 -- blocks
 
@@ -197,7 +233,7 @@ log-bytes : (u : Record) → IsRecord u → AreBytes (logOf u)
 unfolding logOf
 log-bytes u r =
     bytes-put _ _ _ (bytes-put _ _ _ (bytes-put _ _ _ (bytes-put _ _ _ (bytes-put _ _ _ (bytes-zeros 24)
-      (bytes-tested _ refl)) (bytes-tested _ refl)) (r .read-bytes)) (r .written-bytes)) (r .movements-bytes)
+    (bytes-tested _ refl)) (bytes-tested _ refl)) (r .read-bytes)) (r .written-bytes)) (r .movements-bytes)
 
 -- one command
 
@@ -216,55 +252,65 @@ module _ (size : ℕ) (c : Ccw) (s : State) (main store : List ℕ) (h : 1 ≤ s
 
   refused-fields : (w : ℕ) → verdict size c s main store ≡ w → Fields c (refused c s main store w)
   unfolding refused after fetched
-  refused-fields w e = record
-    { unit-fields = pick-ind IsRecord _ _ _ (λ _. r)
-        (λ _. sense-record (s .unit) _ (sense-length w _ (λ z. located-bytes size c s main store (e ∙ z))) (sense-bytes w _ (bytes-part main _ _ m)) r)
-    ; main-bytes = m
-    ; store-bytes = d
-    ; cause-byte = rw (← e) (verdict-small size c s main store)
-    ; moved-fits = omega arith
-    ; blocks-fit = omega arith }
+  refused-fields w e = record {
+    unit-fields = pick-ind IsRecord _ _ _ (λ _. r)
+        (λ _. sense-record (s .unit) _ (sense-length w _ (λ z. located-bytes size c s main store (e ∙ z))) (sense-bytes w _ (bytes-part main _ _ m)) r);
+    main-bytes = m;
+    store-bytes = d;
+    cause-byte = rw (← e) (verdict-small size c s main store);
+    moved-fits = omega arith;
+    blocks-fit = omega arith;
+  }
 
   -- a command that moves bytes into its data area, and no block
   sent-fields : (n : ℕ) (bytes : List ℕ) (u : Record) → AreBytes bytes → IsRecord u → Fields c (sent c (seen c s) main store n bytes u)
   unfolding sent after delivered
-  sent-fields n bytes u b k = record
-    { unit-fields = k; main-bytes = bytes-put main _ _ m (bytes-take (min (c .count) n) bytes b); store-bytes = d
-    ; cause-byte = omega arith; moved-fits = omega arith; blocks-fit = omega arith }
+  sent-fields n bytes u b k = record {
+    unit-fields = k;
+    main-bytes = bytes-put main _ _ m (bytes-take (min (c .count) n) bytes b);
+    store-bytes = d;
+    cause-byte = omega arith;
+    moved-fits = omega arith;
+    blocks-fit = omega arith;
+  }
 
   fields-cases : Cases size c s main store (Fields c)
   unfolding noOperation defineExtent locate sense senseType readLog read write readIpl seen after extentSet locateSet fetched delivered
   fields-cases =
       let k = seen-record in
-      record
-      { refusal = λ w _ e. refused-fields w e
-      ; no-operation = λ _. record { unit-fields = k; main-bytes = m; store-bytes = d; cause-byte = omega arith; moved-fits = omega arith; blocks-fit = omega arith }
-      ; define-extent = λ _ _ f. record { unit-fields = k; main-bytes = m; store-bytes = d; cause-byte = omega arith; moved-fits = define-ok size _ c s _ f .long; blocks-fit = omega arith }
-      ; locate = λ _ _ f. record { unit-fields = movement-counted-record _ k; main-bytes = m; store-bytes = d; cause-byte = omega arith; moved-fits = locate-ok c s _ f .long; blocks-fit = omega arith }
-      ; read = λ _ _ _. record
-          { unit-fields = read-counted-record _ _ k
-          ; main-bytes = bytes-put main _ _ m (bytes-take (min (c .count) (s .located .blocks * size)) _ (blocks-from-bytes size store _ _ d))
-          ; store-bytes = d
-          ; cause-byte = omega arith
-          ; moved-fits = omega arith
-          ; blocks-fit = begun-least size (c .count) _ h }
-      ; write = λ _ _ _. record
-          { unit-fields = pick-ind IsRecord _ _ _ (λ _. written-counted-record _ _ k) (λ _. k)
-          ; main-bytes = m
-          ; store-bytes = blocks-into-bytes size store _ _ _ d (bytes-part main _ _ m)
-          ; cause-byte = omega arith
-          ; moved-fits = omega arith
-          ; blocks-fit = begun-least size (c .count) _ h }
-      ; read-ipl = λ a _ _. record
-          { unit-fields = movement-counted-record _ (read-counted-record 1 _ k)
-          ; main-bytes = bytes-put main _ _ m (bytes-take (min (c .count) size) _ (blocks-from-bytes size store 0 1 d))
-          ; store-bytes = d
-          ; cause-byte = omega arith
-          ; moved-fits = omega arith
-          ; blocks-fit = a .some }
-      ; sense = λ _ _. sent-fields 24 _ _ (k .sense-bytes) (sense-record _ _ (length-zeros 24) (bytes-zeros 24) k)
-      ; sense-type = λ _ _. sent-fields 7 _ _ (bytes-tested _ refl) k
-      ; read-log = λ _ _. sent-fields 24 _ _ (log-bytes _ k) (log-reset-record _ k) }
+      record {
+        refusal = λ w _ e. refused-fields w e;
+        no-operation = λ _. record { unit-fields = k; main-bytes = m; store-bytes = d; cause-byte = omega arith; moved-fits = omega arith; blocks-fit = omega arith };
+        define-extent = λ _ _ f. record { unit-fields = k; main-bytes = m; store-bytes = d; cause-byte = omega arith; moved-fits = define-ok size _ c s _ f .long; blocks-fit = omega arith };
+        locate = λ _ _ f. record { unit-fields = movement-counted-record _ k; main-bytes = m; store-bytes = d; cause-byte = omega arith; moved-fits = locate-ok c s _ f .long; blocks-fit = omega arith };
+        read = λ _ _ _. record {
+          unit-fields = read-counted-record _ _ k;
+          main-bytes = bytes-put main _ _ m (bytes-take (min (c .count) (s .located .blocks * size)) _ (blocks-from-bytes size store _ _ d));
+          store-bytes = d;
+          cause-byte = omega arith;
+          moved-fits = omega arith;
+          blocks-fit = begun-least size (c .count) _ h;
+        };
+        write = λ _ _ _. record {
+          unit-fields = pick-ind IsRecord _ _ _ (λ _. written-counted-record _ _ k) (λ _. k);
+          main-bytes = m;
+          store-bytes = blocks-into-bytes size store _ _ _ d (bytes-part main _ _ m);
+          cause-byte = omega arith;
+          moved-fits = omega arith;
+          blocks-fit = begun-least size (c .count) _ h;
+        };
+        read-ipl = λ a _ _. record {
+          unit-fields = movement-counted-record _ (read-counted-record 1 _ k);
+          main-bytes = bytes-put main _ _ m (bytes-take (min (c .count) size) _ (blocks-from-bytes size store 0 1 d));
+          store-bytes = d;
+          cause-byte = omega arith;
+          moved-fits = omega arith;
+          blocks-fit = a .some;
+        };
+        sense = λ _ _. sent-fields 24 _ _ (k .sense-bytes) (sense-record _ _ (length-zeros 24) (bytes-zeros 24) k);
+        sense-type = λ _ _. sent-fields 7 _ _ (bytes-tested _ refl) k;
+        read-log = λ _ _. sent-fields 24 _ _ (log-bytes _ k) (log-reset-record _ k);
+      }
 
   pub step-fields : Fields c (step size c s main store)
   step-fields = step-cases size c s main store (Fields c) fields-cases

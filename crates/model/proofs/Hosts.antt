@@ -57,14 +57,26 @@ unfolding hostCallOf
 host-keeps size chain main store unit answers b m d u a =
     pick-ind (HostKeeps main store unit answers) _ _ _
     (λ e.
-      let p = host-passed size chain main store unit answers (eqb-true _ _ e) in
-      let l = call-lengths size chain main store (recordOf unit) answers in
-      let g = call-bytes size chain main store (recordOf unit) answers b m d (record-of unit (p .1) u) a in
-      record
-      { main-length = l .main-length; store-length = l .store-length; answers-length = l .answers-length
-      ; unit-length = record-bytes-length _ (g .unit-fields) ∙ sym (p .1)
-      ; main-bytes = g .main-bytes; store-bytes = g .store-bytes; answers-bytes = g .answers-bytes
-      ; unit-bytes = record-bytes _ (g .unit-fields) })
-    (λ _. record
-      { main-length = refl; store-length = refl; unit-length = refl; answers-length = refl
-      ; main-bytes = m; store-bytes = d; unit-bytes = u; answers-bytes = a })
+    let p = host-passed size chain main store unit answers (eqb-true _ _ e) in
+    let l = call-lengths size chain main store (recordOf unit) answers in
+    let g = call-bytes size chain main store (recordOf unit) answers b m d (record-of unit (p .1) u) a in
+    record {
+      main-length = l .main-length;
+      store-length = l .store-length;
+      answers-length = l .answers-length;
+      unit-length = record-bytes-length _ (g .unit-fields) ∙ sym (p .1);
+      main-bytes = g .main-bytes;
+      store-bytes = g .store-bytes;
+      answers-bytes = g .answers-bytes;
+      unit-bytes = record-bytes _ (g .unit-fields);
+    })
+    (λ _. record {
+      main-length = refl;
+      store-length = refl;
+      unit-length = refl;
+      answers-length = refl;
+      main-bytes = m;
+      store-bytes = d;
+      unit-bytes = u;
+      answers-bytes = a;
+    })

@@ -44,15 +44,16 @@ pub answer-holds : (c : Ccw) (d : Done) → c .count < 65536 → d .cause < 256 
 unfolding answerOf unitStatus channelStatus residual
 answer-holds c d n w b =
     let Byte : ℕ → Type 0 = λ k. k < 256 in
-    record
-    { are-bytes =
-        bytes-append _ _ (bytes-append _ _ (bytes-append _ _
+    record {
+      are-bytes =
+          bytes-append _ _ (bytes-append _ _ (bytes-append _ _
           (bytes-cons _ _ (pick-ind Byte _ _ _ (λ _. omega arith) (λ _. pick-ind Byte _ _ _ (λ _. omega arith) (λ _. omega arith)))
           (bytes-cons _ _ (pick-ind Byte _ _ _ (λ _. pick-ind Byte _ _ _ (λ _. omega arith) (λ _. omega arith)) (λ _. pick-ind Byte _ _ _ (λ _. omega arith) (λ _. omega arith))) bytes-nil))
-          (bytes2-are _)) (bytes-cons _ _ w (bytes-cons _ _ (omega arith) bytes-nil))) (bytes2-are _)
-    ; residual-whole = bytes2-hold (c .count - d .moved) (omega arith)
-    ; cause-whole = refl
-    ; blocks-whole = bytes2-hold (d .blocks) b }
+          (bytes2-are _)) (bytes-cons _ _ w (bytes-cons _ _ (omega arith) bytes-nil))) (bytes2-are _);
+      residual-whole = bytes2-hold (c .count - d .moved) (omega arith);
+      cause-whole = refl;
+      blocks-whole = bytes2-hold (d .blocks) b;
+    }
 
 -- a chain
 
@@ -73,11 +74,12 @@ module _ (size : ℕ) (chain : List ℕ) (h : 1 ≤ size) (b : AreBytes chain) w
       let c : Ccw = ccwAt chain i in
       let f = step-fields size c (y .state) (y .main) (y .store) h (l .unit-fields) (l .main-bytes) (l .store-bytes) in
       let n = count-fits chain i b in
-      record
-      { unit-fields = f .unit-fields
-      ; main-bytes = f .main-bytes
-      ; store-bytes = f .store-bytes
-      ; answers-bytes = bytes-put (y .answers) _ _ (l .answers-bytes) (answer-holds c _ n (f .cause-byte) (omega (arith, n, f .blocks-fit)) .are-bytes) }
+      record {
+        unit-fields = f .unit-fields;
+        main-bytes = f .main-bytes;
+        store-bytes = f .store-bytes;
+        answers-bytes = bytes-put (y .answers) _ _ (l .answers-bytes) (answer-holds c _ n (f .cause-byte) (omega (arith, n, f .blocks-fit)) .are-bytes);
+      }
 
   run-bytes : (n i : ℕ) (y : System) → IsLent y → IsLent (run size chain n i y)
   unfolding run
@@ -107,9 +109,9 @@ call-bytes size chain main store u answers b m d r a =
     let y : System = system (start u) main store answers 0 in
     let l : IsLent y = record { unit-fields = r; main-bytes = m; store-bytes = d; answers-bytes = a } in
     let gives : (z : System) → IsLent z → GivesBytes (called (firstOf (callCauses size chain main store answers)) z)
-        = λ z k. record { unit-fields = k .unit-fields; main-bytes = k .main-bytes; store-bytes = k .store-bytes; answers-bytes = k .answers-bytes } in
+    = λ z k. record { unit-fields = k .unit-fields; main-bytes = k .main-bytes; store-bytes = k .store-bytes; answers-bytes = k .answers-bytes } in
     gives _ (pick-ind IsLent _ _ _
-      (λ e.
-        let k = callable size chain main store answers (eqb-true _ _ e) in
-        run-bytes size chain (some-size size store (some-block size store (k .stored) (k .even))) b (length chain / ccwSize) 0 y l)
-      (λ _. l))
+    (λ e.
+    let k = callable size chain main store answers (eqb-true _ _ e) in
+    run-bytes size chain (some-size size store (some-block size store (k .stored) (k .even))) b (length chain / ccwSize) 0 y l)
+    (λ _. l))

@@ -60,21 +60,23 @@ module _ (size : ℕ) (c : Ccw) (s : State) (main store : List ℕ) (h : Safe s 
   lengths-cases =
       let same : (d : Done) → SameLengths main store (out d main store) = λ d. record { main-length = refl; store-length = refl } in
       let moved : (d : Done) (can : ℕ) (bytes : List ℕ) → Admitted c main → (c .command ≡ NO-OPERATION → ⊥)
-              → SameLengths main store (out d (delivered c main (take (min (c .count) can) bytes)) store)
-          = λ d can bytes a x. record { main-length = delivered-length c main can bytes (a .room x); store-length = refl } in
-      record
-      { refusal = λ _ _ _. same _
-      ; no-operation = λ _. same _
-      ; define-extent = λ _ _ _. same _
-      ; locate = λ _ _ _. same _
-      ; read = λ a x _. moved _ _ _ a (λ y. omega arith)
-      ; write = λ _ _ f. record
-          { main-length = refl
-          ; store-length = blocks-into-length size store _ _ _ (in-store size store _ (on-device s _ h (after-locate writes s f))) }
-      ; read-ipl = λ a x _. moved _ _ _ a (λ y. omega arith)
-      ; sense = λ a x. moved _ _ _ a (λ y. omega arith)
-      ; sense-type = λ a x. moved _ _ _ a (λ y. omega arith)
-      ; read-log = λ a x. moved _ _ _ a (λ y. omega arith) }
+      → SameLengths main store (out d (delivered c main (take (min (c .count) can) bytes)) store)
+      = λ d can bytes a x. record { main-length = delivered-length c main can bytes (a .room x); store-length = refl } in
+      record {
+        refusal = λ _ _ _. same _;
+        no-operation = λ _. same _;
+        define-extent = λ _ _ _. same _;
+        locate = λ _ _ _. same _;
+        read = λ a x _. moved _ _ _ a (λ y. omega arith);
+        write = λ _ _ f. record {
+          main-length = refl;
+          store-length = blocks-into-length size store _ _ _ (in-store size store _ (on-device s _ h (after-locate writes s f)));
+        };
+        read-ipl = λ a x _. moved _ _ _ a (λ y. omega arith);
+        sense = λ a x. moved _ _ _ a (λ y. omega arith);
+        sense-type = λ a x. moved _ _ _ a (λ y. omega arith);
+        read-log = λ a x. moved _ _ _ a (λ y. omega arith);
+      }
 
   pub step-lengths : SameLengths main store (step size c s main store)
   step-lengths = step-cases size c s main store (SameLengths main store) lengths-cases
@@ -99,11 +101,12 @@ module _ (size : ℕ) (chain : List ℕ) (first : System) (some : 0 < blockCount
       let c : Ccw = ccwAt chain i in
       let l = step-lengths size c (y .state) (y .main) (y .store) (g .safe) in
       let more : 0 < length (y .store) / size = rw (g .store-length) some in
-      record
-      { main-length = l .main-length ∙ g .main-length
-      ; store-length = l .store-length ∙ g .store-length
-      ; answers-length = length-put (y .answers) (i * answerSize) _ (rw (answer-length, g .answers-length) h) ∙ g .answers-length
-      ; safe = rw (l .store-length) (step-safe size c (y .state) (y .main) (y .store) more (g .safe)) }
+      record {
+        main-length = l .main-length ∙ g .main-length;
+        store-length = l .store-length ∙ g .store-length;
+        answers-length = length-put (y .answers) (i * answerSize) _ (rw (answer-length, g .answers-length) h) ∙ g .answers-length;
+        safe = rw (l .store-length) (step-safe size c (y .state) (y .main) (y .store) more (g .safe));
+      }
 
   pub run-going : (n i : ℕ) (y : System) → (i + n) * answerSize ≤ length (first .answers) → Going size first y → Going size first (run size chain n i y)
   unfolding run
@@ -133,8 +136,8 @@ call-lengths size chain main store u answers =
     let y : System = system (start u) main store answers 0 in
     pick-ind (λ (z : System). SameSizes main store answers (called (firstOf (callCauses size chain main store answers)) z)) _ _ _
     (λ b.
-      let k = callable size chain main store answers (eqb-true _ _ b) in
-      let g = run-going size chain y (some-block size store (k .stored) (k .even)) (length chain / ccwSize) 0 y (omega (arith, k .whole, k .answered))
-          (record { main-length = refl; store-length = refl; answers-length = refl; safe = safe-start u _ }) in
-      record { main-length = g .main-length; store-length = g .store-length; answers-length = g .answers-length })
+    let k = callable size chain main store answers (eqb-true _ _ b) in
+    let g = run-going size chain y (some-block size store (k .stored) (k .even)) (length chain / ccwSize) 0 y (omega (arith, k .whole, k .answered))
+    (record { main-length = refl; store-length = refl; answers-length = refl; safe = safe-start u _ }) in
+    record { main-length = g .main-length; store-length = g .store-length; answers-length = g .answers-length })
     (λ _. record { main-length = refl; store-length = refl; answers-length = refl })

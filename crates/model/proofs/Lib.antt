@@ -13,4 +13,5 @@ pub mod Opened
 pub mod Inputs
 pub mod Worked
 pub mod Overruled
+pub mod Corners
 pub mod WrongUnits

@@ -12,10 +12,11 @@ use Rattle.model.proofs.Inputs.{Lent, lent, device, ccw, extent, locati
 
 -- DEFINE EXTENT and LOCATE, and the LOCATE's cause
 abbrev operation : ℕ → ℕ → Line
-operation byte cause = record
-  { input = lent 4 (ccw DEFINE-EXTENT 0 0x40 16 ++ ccw LOCATE 16 0x00 8) (extent 1 0 2 ++ location byte 0 1 0)
-  ; seen = λ r. causeOf 1 r ∷ []
-  ; want = cause ∷ [] }
+operation byte cause = record {
+  input = lent 4 (ccw DEFINE-EXTENT 0 0x40 16 ++ ccw LOCATE 16 0x00 8) (extent 1 0 2 ++ location byte 0 1 0);
+  seen = λ r. causeOf 1 r ∷ [];
+  want = cause ∷ [];
+}
 
 -- a WRITE of one byte AA after a LOCATE for two blocks, and what is seen of it
 abbrev oneByte : ℕ → Lent
@@ -27,15 +28,16 @@ causes chain want = record { input = lent 1 chain (replicate 24 0); seen = λ r.
 
 -- the sense after a LOCATE that an extent of this mask refuses
 abbrev sensed : ℕ → List ℕ → List ℕ → Line
-sensed mask parameters want = record
-  { input = lent 4 (ccw DEFINE-EXTENT 0 0x40 16 ++ ccw LOCATE 16 0x00 8) ((mask ∷ drop 1 (extent 1 0 2)) ++ parameters)
-  ; seen = λ r. r .unit .sense
-  ; want = want }
+sensed mask parameters want = record {
+  input = lent 4 (ccw DEFINE-EXTENT 0 0x40 16 ++ ccw LOCATE 16 0x00 8) ((mask ∷ drop 1 (extent 1 0 2)) ++ parameters);
+  seen = λ r. r .unit .sense;
+  want = want;
+}
 
 -- a unit that has counted, and has sense
 abbrev counted : Record
 counted = record
-  { sense = replicate 24 0xEE; «blocks_read» = 1 ∷ 2 ∷ 3 ∷ []; «blocks_written» = 4 ∷ 5 ∷ 6 ∷ []; movements = 7 ∷ 8 ∷ []; ready = 1; «read_only» = 0 }
+    { sense = replicate 24 0xEE; «blocks_read» = 1 ∷ 2 ∷ 3 ∷ []; «blocks_written» = 4 ∷ 5 ∷ 6 ∷ []; movements = 7 ∷ 8 ∷ []; ready = 1; «read_only» = 0 }
 
 abbrev logged : ℕ → Lent
 logged count = record { chain = ccw READ-LOG 0 0x20 count; main = replicate 24 0xFF; store = device 1; unit = counted; answers = replicate 8 0 }
@@ -58,19 +60,22 @@ lines =
     ∷ sensed 0x40 (location write-data 0 1 0) (0x80 ∷ 0x00 ∷ 0 ∷ 0 ∷ 0 ∷ 0 ∷ 0 ∷ 0x04 ∷ replicate 16 0)
     ∷ sensed 0xC0 (location write-data 0 4 0) (0x80 ∷ 0x04 ∷ 0 ∷ 0 ∷ 0 ∷ 0 ∷ 0 ∷ 0x04 ∷ replicate 16 0)
     -- 5.1 and 2.4.3: Environmental Data Present in the log's byte 2; sense and counts are zero after it, however few bytes moved
-    ∷ record
-      { input = logged 24
-      ; seen = λ r. r .main
-      ; want = (0 ∷ 0 ∷ 0x10 ∷ 0 ∷ 0 ∷ 0 ∷ 0 ∷ 0x68 ∷ []) ++ (1 ∷ 2 ∷ 3 ∷ 0 ∷ 0 ∷ 0 ∷ 0 ∷ 4 ∷ 5 ∷ 6 ∷ 0 ∷ 7 ∷ 8 ∷ 0 ∷ 0 ∷ 0 ∷ []) }
-    ∷ record
-      { input = logged 1
-      ; seen = λ r. r .unit .sense ++ r .unit .«blocks_read» ++ r .unit .«blocks_written» ++ r .unit .movements
-      ; want = replicate 32 0 }
+    ∷ record {
+      input = logged 24;
+      seen = λ r. r .main;
+      want = (0 ∷ 0 ∷ 0x10 ∷ 0 ∷ 0 ∷ 0 ∷ 0 ∷ 0x68 ∷ []) ++ (1 ∷ 2 ∷ 3 ∷ 0 ∷ 0 ∷ 0 ∷ 0 ∷ 4 ∷ 5 ∷ 6 ∷ 0 ∷ 7 ∷ 8 ∷ 0 ∷ 0 ∷ 0 ∷ []);
+    }
+    ∷ record {
+      input = logged 1;
+      seen = λ r. r .unit .sense ++ r .unit .«blocks_read» ++ r .unit .«blocks_written» ++ r .unit .movements;
+      want = replicate 32 0;
+    }
     -- 5.3: format 1 has no table of messages
-    ∷ record
-      { input = record { chain = ccw NO-OPERATION 0 0x00 1; main = []; store = device 1; unit = newRecord 0 0; answers = replicate 8 0 }
-      ; seen = λ r. r .unit .sense
-      ; want = 0x40 ∷ 0 ∷ 0 ∷ 0 ∷ 0 ∷ 0 ∷ 0 ∷ 0x10 ∷ replicate 16 0 }
+    ∷ record {
+      input = record { chain = ccw NO-OPERATION 0 0x00 1; main = []; store = device 1; unit = newRecord 0 0; answers = replicate 8 0 };
+      seen = λ r. r .unit .sense;
+      want = 0x40 ∷ 0 ∷ 0 ∷ 0 ∷ 0 ∷ 0 ∷ 0 ∷ 0x10 ∷ replicate 16 0;
+    }
     ∷ []
 
 pub overruled : map got lines ≡ map wanted lines

@@ -24,28 +24,29 @@ pub record-bytes : (u : Record) → IsRecord u → AreBytes (recordBytes u)
 unfolding recordBytes
 record-bytes u r =
     bytes-append _ _ (bytes-append _ _ (bytes-append _ _ (bytes-append _ _ (r .sense-bytes) (r .read-bytes)) (r .written-bytes)) (r .movements-bytes))
-      (bytes-cons _ _ (r .ready-byte) (bytes-cons _ _ (r .read-only-byte) bytes-nil))
+    (bytes-cons _ _ (r .ready-byte) (bytes-cons _ _ (r .read-only-byte) bytes-nil))
 
 pub record-of : (l : List ℕ) → length l ≡ recordSize → AreBytes l → IsRecord (recordOf l)
 unfolding recordOf
-record-of l e b = record
-  { sense-length = length-part l 0 24 (omega (arith, e))
-  ; read-length = length-part l 24 3 (omega (arith, e))
-  ; written-length = length-part l 27 3 (omega (arith, e))
-  ; movements-length = length-part l 30 2 (omega (arith, e))
-  ; sense-bytes = bytes-part l 0 24 b
-  ; read-bytes = bytes-part l 24 3 b
-  ; written-bytes = bytes-part l 27 3 b
-  ; movements-bytes = bytes-part l 30 2 b
-  ; ready-byte = byte-at l 32 b
-  ; read-only-byte = byte-at l 33 b }
+record-of l e b = record {
+  sense-length = length-part l 0 24 (omega (arith, e));
+  read-length = length-part l 24 3 (omega (arith, e));
+  written-length = length-part l 27 3 (omega (arith, e));
+  movements-length = length-part l 30 2 (omega (arith, e));
+  sense-bytes = bytes-part l 0 24 b;
+  read-bytes = bytes-part l 24 3 b;
+  written-bytes = bytes-part l 27 3 b;
+  movements-bytes = bytes-part l 30 2 b;
+  ready-byte = byte-at l 32 b;
+  read-only-byte = byte-at l 33 b;
+}
 
 pub bytes-back : (l : List ℕ) → length l ≡ recordSize → recordBytes (recordOf l) ≡ l
 unfolding recordBytes recordOf part
 bytes-back l e =
     let end : drop 32 l ≡ getD l 32 0 ∷ getD l 33 0 ∷ [] =
-        drop-cons l 32 0 (omega (arith, e)) ∙ ap (λ (k : List ℕ). getD l 32 0 ∷ k)
-        (drop-cons l 33 0 (omega (arith, e)) ∙ ap (λ (k : List ℕ). getD l 33 0 ∷ k) (drop-of-length-le l {i = 34} (omega (arith, e)))) in
+    drop-cons l 32 0 (omega (arith, e)) ∙ ap (λ (k : List ℕ). getD l 32 0 ∷ k)
+    (drop-cons l 33 0 (omega (arith, e)) ∙ ap (λ (k : List ℕ). getD l 33 0 ∷ k) (drop-of-length-le l {i = 34} (omega (arith, e)))) in
     rw (take-part l 24 3, take-part l 27 3, take-part l 30 2, ← end) (take-append-drop 32 l)
 
 pub record-back : (u : Record) → IsRecord u → recordOf (recordBytes u) ≡ u

@@ -58,28 +58,30 @@ refused-untouched : (c : Ccw) (s : State) (main store : List ℕ) (w : ℕ) → 
 unfolding refused after withSense
 refused-untouched c s main store w =
     let same : SameButSense (s .unit) (s .unit) = record { blocks-read = refl; blocks-written = refl; movements = refl; ready = refl; read-only = refl } in
-    record
-    { main-same = refl
-    ; store-same = refl
-    ; nothing-moved = (refl, refl)
-    ; unit-check = pick-ind (SameButSense (s .unit)) _ _ _ (λ _. same)
-        (λ _. record { blocks-read = refl; blocks-written = refl; movements = refl; ready = refl; read-only = refl })
-    ; program-check = λ b. pick-true _ _ _ b }
+    record {
+      main-same = refl;
+      store-same = refl;
+      nothing-moved = (refl, refl);
+      unit-check = pick-ind (SameButSense (s .unit)) _ _ _ (λ _. same)
+          (λ _. record { blocks-read = refl; blocks-written = refl; movements = refl; ready = refl; read-only = refl });
+      program-check = λ b. pick-true _ _ _ b;
+    }
 
 -- an accepted command has cause 0
 accepted-zero : (size : ℕ) (c : Ccw) (s : State) (main store : List ℕ) → Cases size c s main store (λ o. (o .done .cause ≡ 0 → ⊥) → Untouched s main store o)
 unfolding noOperation defineExtent locate read write readIpl sense senseType readLog sent
-accepted-zero size c s main store = record
-  { refusal = λ w n e z. refused-untouched c s main store w
-  ; no-operation = λ x z. absurd (z refl)
-  ; define-extent = λ a x f z. absurd (z refl)
-  ; locate = λ a x f z. absurd (z refl)
-  ; read = λ a x f z. absurd (z refl)
-  ; write = λ a x f z. absurd (z refl)
-  ; read-ipl = λ a x f z. absurd (z refl)
-  ; sense = λ a x z. absurd (z refl)
-  ; sense-type = λ a x z. absurd (z refl)
-  ; read-log = λ a x z. absurd (z refl) }
+accepted-zero size c s main store = record {
+  refusal = λ w n e z. refused-untouched c s main store w;
+  no-operation = λ x z. absurd (z refl);
+  define-extent = λ a x f z. absurd (z refl);
+  locate = λ a x f z. absurd (z refl);
+  read = λ a x f z. absurd (z refl);
+  write = λ a x f z. absurd (z refl);
+  read-ipl = λ a x f z. absurd (z refl);
+  sense = λ a x z. absurd (z refl);
+  sense-type = λ a x z. absurd (z refl);
+  read-log = λ a x z. absurd (z refl);
+}
 
 pub step-untouched : (size : ℕ) (c : Ccw) (s : State) (main store : List ℕ) → (step size c s main store .done .cause ≡ 0 → ⊥) → Untouched s main store (step size c s main store)
 step-untouched size c s main store = step-cases size c s main store (λ o. (o .done .cause ≡ 0 → ⊥) → Untouched s main store o) (accepted-zero size c s main store)

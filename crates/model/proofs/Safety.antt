@@ -40,9 +40,10 @@ pub record DefineOk (c : Ccw) (e : Extent) (blocks : ℕ) : Type 0 where
 
 pub define-ok : (size blocks : ℕ) (c : Ccw) (s : State) (p : List ℕ) → Failed (defineExtentCauses size blocks c s p) → DefineOk c (extentIn p) blocks
 unfolding defineExtentCauses
-define-ok size blocks c s p f = record
-  { long = ltb-false _ _ (f .0)
-  ; placed = record { order = ltb-false _ _ (f .1 .1 .1 .1 .1 .0); inside = ltb-true _ _ (not-false _ (f .1 .1 .1 .1 .1 .1 .0)) } }
+define-ok size blocks c s p f = record {
+  long = ltb-false _ _ (f .0);
+  placed = record { order = ltb-false _ _ (f .1 .1 .1 .1 .1 .0); inside = ltb-true _ _ (not-false _ (f .1 .1 .1 .1 .1 .1 .0)) };
+}
 
 pub record InExtent (e : Extent) (l : Located) : Type 0 where
   pub some : 1 ≤ l .blocks
@@ -69,10 +70,11 @@ locate-ok c s p f =
     let n = eqb-false (locatedIn p .blocks) 0 (either-false _ _ (f .1 .1 .1 .1 .0) .0) in
     let o = either-false (locatedIn p .displacement .0 <? s .extent .first .0) (s .extent .last .0 + 1 <? locatedIn p .displacement .0 + processed p) (f .1 .1 .1 .1 .1 .1 .0) in
     let h : locatedIn p .displacement .0 + processed p ≤ s .extent .last .0 + 1 = ltb-false _ _ (o .1) in
-    record
-    { defined = not-false _ (f .0)
-    ; long = ltb-false _ _ (f .1 .0)
-    ; placed = record { some = omega (arith, n); from-first = ltb-false _ _ (o .0); to-last = omega (arith, k, h) } }
+    record {
+      defined = not-false _ (f .0);
+      long = ltb-false _ _ (f .1 .0);
+      placed = record { some = omega (arith, n); from-first = ltb-false _ _ (o .0); to-last = omega (arith, k, h) };
+    }
 
 pub after-locate : (follows : ℕ → Bool) (s : State) → Failed (transferCauses follows s) → a-locate (s .before) ≡ true
 unfolding transferCauses
@@ -111,21 +113,22 @@ module _ (size : ℕ) (c : Ccw) (s : State) (main store : List ℕ) (some : 0 < 
       let n : ℕ = blockCount size store in
       let t : State = seen c s in
       let k : Safe t n = safe-seen c s n h in
-      record
-      { refusal = λ w _ _. safe-after s _ _ n refl h
-      ; no-operation = λ _. safe-after t _ _ n refl k
-      ; define-extent = λ _ _ f.
-          let d = define-ok size n c s _ f in
-          record { extent = λ _. d .placed; located = λ e. absurd (false≢true e) }
-      ; locate = λ _ _ f.
-          let l = locate-ok c s _ f in
-          record { extent = k .extent; located = λ _. (l .defined, l .placed) }
-      ; read = λ _ _ _. safe-after t _ _ n refl k
-      ; write = λ _ _ _. safe-after t _ _ n refl k
-      ; read-ipl = λ _ _ _. record { extent = λ _. record { order = omega arith; inside = omega arith }; located = λ e. absurd (false≢true e) }
-      ; sense = λ _ _. safe-after t _ _ n refl k
-      ; sense-type = λ _ _. safe-after t _ _ n refl k
-      ; read-log = λ _ _. safe-after t _ _ n refl k }
+      record {
+        refusal = λ w _ _. safe-after s _ _ n refl h;
+        no-operation = λ _. safe-after t _ _ n refl k;
+        define-extent = λ _ _ f.
+            let d = define-ok size n c s _ f in
+            record { extent = λ _. d .placed; located = λ e. absurd (false≢true e) };
+        locate = λ _ _ f.
+            let l = locate-ok c s _ f in
+            record { extent = k .extent; located = λ _. (l .defined, l .placed) };
+        read = λ _ _ _. safe-after t _ _ n refl k;
+        write = λ _ _ _. safe-after t _ _ n refl k;
+        read-ipl = λ _ _ _. record { extent = λ _. record { order = omega arith; inside = omega arith }; located = λ e. absurd (false≢true e) };
+        sense = λ _ _. safe-after t _ _ n refl k;
+        sense-type = λ _ _. safe-after t _ _ n refl k;
+        read-log = λ _ _. safe-after t _ _ n refl k;
+      }
 
   pub step-safe : Safe (step size c s main store .done .state) (blockCount size store)
   step-safe = step-cases size c s main store (λ o. Safe (o .done .state) (blockCount size store)) safe-cases

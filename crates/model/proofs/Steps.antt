@@ -56,14 +56,16 @@ module _ (size : ℕ) (c : Ccw) (s : State) (main store : List ℕ) where
   unfolding verdict causesOf channelCauses unitCauses
   past-channel w a e =
       let f = failed-upto w (channelCauses c main ++ unitCauses c s) (ownCauses size c s main store) a e in
-      let none = eqb-false (c .count) 0 (f .0 .1 .1 .0) in
-      ( record
-        { some = omega (arith, none)
-        ; room = λ n.
-            let other : not (c .command =? NO-OPERATION) ≡ true = rw (ne-eqb _ _ n) refl in
-            ltb-false _ _ (both-false _ _ (f .0 .1 .1 .1 .0) other)
-        ; listed = not-false _ (f .0 .1 .1 .1 .1 .1 .0) }
-      , f .1)
+      let none = eqb-false (c .count) 0 (f .0 .1 .1 .0) in (
+        record {
+          some = omega (arith, none);
+          room = λ n.
+              let other : not (c .command =? NO-OPERATION) ≡ true = rw (ne-eqb _ _ n) refl in
+              ltb-false _ _ (both-false _ _ (f .0 .1 .1 .1 .0) other);
+          listed = not-false _ (f .0 .1 .1 .1 .1 .1 .0);
+        },
+        f .1,
+      )
 
   own-define : c .command ≡ DEFINE-EXTENT → ownCauses size c s main store ≡ defineExtentCauses size (blockCount size store) c s (fetched c main extentLength)
   unfolding ownCauses pick

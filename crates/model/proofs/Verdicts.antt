@@ -78,8 +78,9 @@ taken false w k n e = absurd (n e)
 pub given-exactly : (rs qs : List Rule) (w : ℕ) (b : Bool) → (w ≡ 0 → ⊥) → absent w rs ≡ true → absent w qs ≡ true
     → firstOf (rs ++ w when b ∷ qs) ≡ w ↔ (Failed rs × (b ≡ true))
 unfolding firstOf
-given-exactly rs qs w b n a c =
-    ( (λ e.
-        let p = failed-upto w rs (w when b ∷ qs) a e in
-        (p .0, taken b w (firstOf qs) (never-given w qs c n) (p .1)))
-    , λ f. first-given rs qs w b (f .0) (f .1))
+given-exactly rs qs w b n a c = (
+  (λ e.
+      let p = failed-upto w rs (w when b ∷ qs) a e in
+      (p .0, taken b w (firstOf qs) (never-given w qs c n) (p .1))),
+  λ f. first-given rs qs w b (f .0) (f .1),
+)

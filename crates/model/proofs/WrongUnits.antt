@@ -107,9 +107,10 @@ apart-differ : (ws : List Wrong) → apart ws ≡ true → Differ ws
 unfolding apart
 apart-differ [] e = tt
 apart-differ (w ∷ ws) e =
-    let p = both-true _ _ e in
-    ( (λ z. false≢true (sym (not-true _ (p .0)) ∙ ap (λ (r : Called). same (seen r) (seen (theUnit (w .input)))) z ∙ same-self (seen (theUnit (w .input)))))
-    , apart-differ ws (p .1))
+    let p = both-true _ _ e in (
+      (λ z. false≢true (sym (not-true _ (p .0)) ∙ ap (λ (r : Called). same (seen r) (seen (theUnit (w .input)))) z ∙ same-self (seen (theUnit (w .input))))),
+      apart-differ ws (p .1),
+    )
 
 pub wrong-units-differ : Differ wrongs
 unfolding opened apart same seen wrongs refusesAll marked withAnswers endsAll idle firstOnly inventsBlocks inventsCounts

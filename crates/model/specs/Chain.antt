@@ -49,12 +49,13 @@ module _ (size : ℕ) (chain : List ℕ) where
 
 -- no extent and no command before: "Keeping an extent from one chain to the next" is an error
 unfoldable pub start : Record → State
-start u = record
-  { unit = u
-  ; defined = false
-  ; extent = record { mask = 0; offset = record { 0 = 0 }; first = record { 0 = 0 }; last = record { 0 = 0 } }
-  ; before = Nothing
-  ; located = record { operation = 0; blocks = 0; displacement = record { 0 = 0 } } }
+start u = record {
+  unit = u;
+  defined = false;
+  extent = record { mask = 0; offset = record { 0 = 0 }; first = record { 0 = 0 }; last = record { 0 = 0 } };
+  before = Nothing;
+  located = record { operation = 0; blocks = 0; displacement = record { 0 = 0 } };
+}
 
 -- what a call gives: cause and commands reached, and all that was lent as it then is
 pub record Called : Type 0 where

@@ -64,10 +64,11 @@ unfoldable pub locate : Ccw → State → List ℕ → List ℕ → Out
 locate c s main store =
     out (ended (locateSet s (movementCounted (s .unit)) (locatedIn (fetched c main locateLength))) locateLength locateLength 0) main store
 
--- a command that moves up to n bytes into its data area, and leaves that unit record
+-- a command that can move so many of these bytes into its data area, and leaves that unit record
 unfoldable pub sent : Ccw → State → List ℕ → List ℕ → ℕ → List ℕ → Record → Out
-sent c s main store n bytes u =
-    out (ended (after s u Other) (min (c .count) n) n 0) (delivered c main (take (min (c .count) n) bytes)) store
+sent c s main store can bytes u =
+    let n = min (c .count) can in
+    out (ended (after s u Other) n can 0) (delivered c main (take n bytes)) store
 
 -- "SENSE moves up to 24 bytes, then all sense is zero"
 unfoldable pub sense : Ccw → State → List ℕ → List ℕ → Out
@@ -89,21 +90,22 @@ module _ (size : ℕ) where
   unfoldable pub read : Ccw → State → List ℕ → List ℕ → Out
   read c s main store =
       let l = s .located in
-      let n = min (c .count) (l .blocks * size) in
-      out (ended (after s (readCounted (begun n) (s .unit)) Other) n (l .blocks * size) (begun n))
-        (delivered c main (take n (blocksFrom size store (address (s .extent) (l .displacement)) (l .blocks))))
-        store
+      let can = l .blocks * size in
+      let n = min (c .count) can in
+      let u = readCounted (begun n) (s .unit) in
+      let bytes = blocksFrom size store (address (s .extent) (l .displacement)) (l .blocks) in
+      out (ended (after s u Other) n can (begun n)) (delivered c main (take n bytes)) store
 
   -- "WRITE moves up to as many bytes into the store"; 002, 2.3: what they leave of the LOCATE's blocks is filled with zeros,
   -- so after operation 5 all of those blocks are written with check (002, 5.8.1)
   unfoldable pub write : Ccw → State → List ℕ → List ℕ → Out
   write c s main store =
       let l = s .located in
-      let n = min (c .count) (l .blocks * size) in
+      let can = l .blocks * size in
+      let n = min (c .count) can in
       let u = pick (l .operation =? write-check) (writtenCounted (l .blocks) (s .unit)) (s .unit) in
-      out (ended (after s u Other) n (l .blocks * size) (begun n))
-        main
-        (blocksInto size store (address (s .extent) (l .displacement)) (l .blocks) (fetched c main n))
+      let written = blocksInto size store (address (s .extent) (l .displacement)) (l .blocks) (fetched c main n) in
+      out (ended (after s u Other) n can (begun n)) main written
 
   -- "sets an extent over the whole device: offset 0, first 0, last the final block, mask 00"
   unfoldable pub wholeDevice : List ℕ → Extent
@@ -113,9 +115,9 @@ module _ (size : ℕ) where
   unfoldable pub readIpl : Ccw → State → List ℕ → List ℕ → Out
   readIpl c s main store =
       let n = min (c .count) size in
-      out (ended (extentSet s (movementCounted (readCounted 1 (s .unit))) (wholeDevice store) ReadIpl) n size 1)
-        (delivered c main (take n (blocksFrom size store 0 1)))
-        store
+      let u = movementCounted (readCounted 1 (s .unit)) in
+      let bytes = blocksFrom size store 0 1 in
+      out (ended (extentSet s u (wholeDevice store) ReadIpl) n size 1) (delivered c main (take n bytes)) store
 
   unfoldable pub accepted : Ccw → State → List ℕ → List ℕ → Out
   accepted c s main store =

@@ -62,15 +62,16 @@ unfoldable pub recordBytes : Record → List ℕ
 recordBytes u = u .sense ++ u .«blocks_read» ++ u .«blocks_written» ++ u .movements ++ (u .ready ∷ u .«read_only» ∷ [])
 
 unfoldable pub recordOf : List ℕ → Record
-recordOf l = record
-  { sense = part l 0 24
-  ; «blocks_read» = part l 24 3
-  ; «blocks_written» = part l 27 3
-  ; movements = part l 30 2
-  ; ready = getD l 32 0
-  ; «read_only» = getD l 33 0 }
+recordOf l = record {
+  sense = part l 0 24;
+  «blocks_read» = part l 24 3;
+  «blocks_written» = part l 27 3;
+  movements = part l 30 2;
+  ready = getD l 32 0;
+  «read_only» = getD l 33 0;
+}
 
 -- "sense and counts with zero": the record of a new unit
 unfoldable pub newRecord : ℕ → ℕ → Record
 newRecord ready readOnly = record
-  { sense = zeros 24; «blocks_read» = zeros 3; «blocks_written» = zeros 3; movements = zeros 2; ready = ready; «read_only» = readOnly }
+    { sense = zeros 24; «blocks_read» = zeros 3; «blocks_written» = zeros 3; movements = zeros 2; ready = ready; «read_only» = readOnly }

@@ -36,12 +36,8 @@ movementCounted u = withCounts u (u .«blocks_read») (u .«blocks_written») (a
 -- 002, 5.1: byte 2 bit 3, Environmental Data Present; byte 7: format 6, message 8
 unfoldable pub logOf : Record → List ℕ
 logOf u =
-    put (put (put (put (put (zeros 24)
-      environmental-at (0x10 ∷ []))
-      format-at (0x68 ∷ []))
-      blocks-read-at (u .«blocks_read»))
-      blocks-written-at (u .«blocks_written»))
-      movements-at (u .movements)
+    let headed = put (put (zeros 24) environmental-at (0x10 ∷ [])) format-at (0x68 ∷ []) in
+    put (put (put headed blocks-read-at (u .«blocks_read»)) blocks-written-at (u .«blocks_written»)) movements-at (u .movements)
 
 unfoldable pub logReset : Record → Record
 logReset u = withCounts u (zeros 3) (zeros 3) (zeros 2)

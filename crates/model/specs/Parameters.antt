@@ -65,10 +65,10 @@ writes = oneOf (write-data ∷ write-check ∷ [])
 -- 01, DEFINE EXTENT; 002, 2.1.3: by mask bits 0-1, the operations that are forbidden. Cause 22 keeps 10 from ever standing.
 abbrev pub forbidden : List (List ℕ)
 forbidden =
-    (format ∷ [])                               -- 00
+    (format ∷ [])  -- 00
     ∷ (format ∷ write-data ∷ write-check ∷ [])  -- 01
-    ∷ operations                                -- 10
-    ∷ []                                        -- 11
+    ∷ operations  -- 10
+    ∷ []  -- 11
     ∷ []
 
 unfoldable pub forbids : ℕ → ℕ → Bool

@@ -12,7 +12,6 @@ use lib.Dec.{ltb, eqb}
 
 infix 50 _<?_ _=?_
 infix 70 _when_
-
 abbrev pub _<?_ : ℕ → ℕ → Bool
 n <? m = ltb n m
 

@@ -53,5 +53,5 @@ rowIn (r ∷ rs) cause = pick (r .cause =? cause) r (rowIn rs cause)
 unfoldable pub senseOf : ℕ → List ℕ → List ℕ
 senseOf cause parameters =
     let r = rowIn senseTable cause in
-    put (put (put (zeros 24) 0 (r .byte0 ∷ r .byte1 ∷ [])) format-at (r .byte7 ∷ []))
-      parameters-at (pick (cause =? 39) parameters (zeros 8))
+    let headed = put (put (zeros 24) 0 (r .byte0 ∷ r .byte1 ∷ [])) format-at (r .byte7 ∷ []) in
+    put headed parameters-at (pick (cause =? 39) parameters (zeros 8))

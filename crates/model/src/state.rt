@@ -1,5 +1,6 @@
 // What the unit knows while a chain runs, and what one command gives.
-use crate::extent::{Extent, Located};
+use crate::extent::Extent;
+use crate::extent::Located;
 use crate::record::Record;
 
 // The command directly before, as far as the next one depends on it.

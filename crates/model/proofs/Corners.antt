@@ -1,0 +1,68 @@
+-- Corners of 01, seen in whole calls: the order of the causes where two rules hold, and what is given "exactly when".
+-- One table, one statement. Assumes nothing.
+use Prim.Native.Nat.{ℕ}
+use mathlib.Core.Path.{_≡_, refl}
+use mathlib.Core.List.{List, [], _∷_, _++_, map}
+use lib.ListN.{replicate}
+use Rattle.model.specs.Names.{NO-OPERATION, DEFINE-EXTENT, LOCATE, READ, READ-IPL, SENSE, SENSE-TYPE, write-data, read-data}
+use Rattle.model.specs.Lent.{newRecord}
+use Rattle.model.proofs.Opened.{opened}
+use Rattle.model.proofs.Inputs.{lent, device, ccw, extent, location, Line, got, wanted, causeOf}
+
+-- one CCW on 24 bytes of main storage, to a unit that is ready (1) or not (0)
+abbrev alone : ℕ → List ℕ → ℕ → Line
+alone ready c cause = record {
+  input = record { chain = c; main = replicate 24 0; store = device 1; unit = newRecord ready 0; answers = replicate 8 0 };
+  seen = λ r. causeOf 0 r ∷ [];
+  want = cause ∷ [];
+}
+
+-- a chain on a read-only unit, an extent of these bytes at 0 and a LOCATE's parameters at 16: the cause of one command
+abbrev causeAt : ℕ → List ℕ → List ℕ → List ℕ → ℕ → Line
+causeAt i chain e l cause = record {
+  input = record { chain = chain; main = e ++ l; store = device 4; unit = newRecord 1 1; answers = replicate 32 0 };
+  seen = λ r. causeOf i r ∷ [];
+  want = cause ∷ [];
+}
+
+abbrev defining : List ℕ
+defining = ccw DEFINE-EXTENT 0 0x40 16
+
+abbrev locating : List ℕ
+locating = ccw LOCATE 16 0x00 8
+
+abbrev forbidding : List ℕ
+forbidding = 0x40 ∷ replicate 15 0
+
+abbrev pub lines : List Line
+lines =
+    -- 13, 10, 11, 12, 44, 43, in this order
+    alone 0 (ccw 0x08 0 0x80 0) 13
+    ∷ alone 0 (ccw 0x07 0 0x80 0) 10
+    ∷ alone 0 (ccw 0x07 99 0x00 0) 11
+    ∷ alone 0 (ccw 0x07 1 0x00 24) 12
+    ∷ alone 0 (ccw 0x07 0 0x00 24) 44
+    ∷ alone 1 (ccw 0x07 0 0x00 24) 43
+    -- 12 is not tested for NO-OPERATION; 44 is not given to SENSE and SENSE TYPE
+    ∷ alone 1 (ccw NO-OPERATION 99 0x00 24) 0
+    ∷ alone 0 (ccw NO-OPERATION 0 0x00 1) 44
+    ∷ alone 0 (ccw SENSE 0 0x00 24) 0
+    ∷ alone 0 (ccw SENSE-TYPE 0 0x00 24) 0
+    -- DEFINE EXTENT: 20 before 21, and 21 after READ IPL too
+    ∷ causeAt 1 (defining ++ ccw DEFINE-EXTENT 0 0x00 15) (extent 0 0 3) [] 20
+    ∷ causeAt 1 (defining ++ ccw DEFINE-EXTENT 0 0x00 16) (extent 0 0 3) [] 21
+    ∷ causeAt 1 (ccw READ-IPL 16 0x60 1 ++ ccw DEFINE-EXTENT 0 0x00 16) (extent 0 0 3) (0 ∷ []) 21
+    -- LOCATE: 30 before 31, 34 before 36, 36 before 37, 37 before 38
+    ∷ causeAt 0 (ccw LOCATE 16 0x00 7) (extent 0 0 3) (location write-data 0 1 0) 30
+    ∷ causeAt 1 (defining ++ ccw LOCATE 16 0x00 7) (extent 0 0 3) (location write-data 0 1 0) 31
+    ∷ causeAt 1 (defining ++ locating) forbidding (location write-data 0 0 9) 34
+    ∷ causeAt 1 (defining ++ locating) forbidding (location write-data 0 1 9) 36
+    ∷ causeAt 1 (defining ++ locating) forbidding (location write-data 0 1 0) 37
+    ∷ causeAt 1 (defining ++ locating) (extent 0 0 3) (location write-data 0 1 0) 38
+    -- READ: only directly after its LOCATE, and only once
+    ∷ causeAt 3 (defining ++ ccw LOCATE 16 0x40 8 ++ ccw NO-OPERATION 0 0x40 1 ++ ccw READ 0 0x20 1) (extent 0 0 3) (location read-data 0 1 0) 41
+    ∷ []
+
+pub corners : map got lines ≡ map wanted lines
+unfolding opened
+corners = refl
