@@ -28,7 +28,7 @@ use Rattle.model.specs.Parameters.{extentLength, locateLength, reads, wr
 use Rattle.model.specs.Causes.{channelCauses, unitCauses, defineExtentCauses, locateCauses, readIplCauses, transferCauses, ownCauses, causesOf, verdict}
 use Rattle.model.specs.Sense.{SenseRow, senseTable, rowIn, senseOf}
 use Rattle.model.specs.Log.{withSense, withCounts, added3, added2, readCounted, writtenCounted, movementCounted, logOf, logReset}
-use Rattle.model.specs.Commands.{Out, out, noOperation, defineExtent, locate, sent, sense, senseType, readLog, begun, read, write, readIpl, refused, seen, after, extentSet, locateSet, step}
+use Rattle.model.specs.Commands.{Out, out, noOperation, defineExtent, locate, sent, sense, senseType, readLog, begun, read, write, readIpl, refused, refusal, seen, after, extentSet, locateSet, step}
 use Rattle.model.specs.Answer.{unitStatus, channelStatus, residual, answerOf}
 use Rattle.model.proofs.Picks.{pick-ind}
 use Rattle.model.proofs.Verdicts.{absent, peel, never-given, both-true}
@@ -251,7 +251,7 @@ module _ (size : ℕ) (c : Ccw) (s : State) (main store : List ℕ) (h : 1 ≤ s
   seen-record = pick-ind IsRecord _ _ _ (λ _. r) (λ _. sense-record (s .unit) (zeros 24) (length-zeros 24) (bytes-zeros 24) r)
 
   refused-fields : (w : ℕ) → verdict size c s main store ≡ w → Fields c (refused c s main store w)
-  unfolding refused after fetched
+  unfolding refused refusal after fetched
   refused-fields w e = record {
     unit-fields = pick-ind IsRecord _ _ _ (λ _. r)
         (λ _. sense-record (s .unit) _ (sense-length w _ (λ z. located-bytes size c s main store (e ∙ z))) (sense-bytes w _ (bytes-part main _ _ m)) r);

@@ -23,7 +23,7 @@ use Rattle.model.specs.Rules.{pick, firstOf}
 use Rattle.model.specs.Lent.{ccwSize, ccwAt, fetched, delivered, blockStart, blockCount, blocksInto}
 use Rattle.model.specs.Parameters.{address, reads, writes}
 use Rattle.model.specs.Causes.{callCauses}
-use Rattle.model.specs.Commands.{Out, out, noOperation, defineExtent, locate, sent, sense, senseType, readLog, read, write, readIpl, refused, seen, after, step}
+use Rattle.model.specs.Commands.{Out, out, noOperation, defineExtent, locate, sent, sense, senseType, readLog, read, write, readIpl, refused, refusal, seen, after, step}
 use Rattle.model.specs.Answer.{answerSize, answerOf}
 use Rattle.model.specs.Chain.{System, system, stepAt, next, run, start, Called, called, callOf}
 use Rattle.model.proofs.Picks.{pick-ind}
@@ -56,7 +56,7 @@ pub record SameLengths (main store : List ℕ) (o : Out) : Type 0 where
 
 module _ (size : ℕ) (c : Ccw) (s : State) (main store : List ℕ) (h : Safe s (blockCount size store)) where
   lengths-cases : Cases size c s main store (SameLengths main store)
-  unfolding noOperation defineExtent locate sent sense senseType readLog read write readIpl refused seen after
+  unfolding noOperation defineExtent locate sent sense senseType readLog read write readIpl refused refusal seen after
   lengths-cases =
       let same : (d : Done) → SameLengths main store (out d main store) = λ d. record { main-length = refl; store-length = refl } in
       let moved : (d : Done) (can : ℕ) (bytes : List ℕ) → Admitted c main → (c .command ≡ NO-OPERATION → ⊥)

@@ -16,7 +16,7 @@ use Rattle.model.specs.Rules.{_=?_, pick, firstOf}
 use Rattle.model.specs.Lent.{fetched}
 use Rattle.model.specs.Causes.{callCauses, hostCauses, programCheck, verdict}
 use Rattle.model.specs.Log.{withSense}
-use Rattle.model.specs.Commands.{Out, after, refused, step, sent, noOperation, defineExtent, locate, read, write, readIpl, sense, senseType, readLog}
+use Rattle.model.specs.Commands.{Out, after, refused, refusal, step, sent, noOperation, defineExtent, locate, read, write, readIpl, sense, senseType, readLog}
 use Rattle.model.specs.Chain.{Called, callOf, start, system, run}
 use Rattle.model.specs.Host.{Hosted, resultOf, hostCallOf}
 use Rattle.model.proofs.Picks.{pick-ind, pick-true, pick-false}
@@ -55,7 +55,7 @@ pub record Untouched (s : State) (main store : List ℕ) (o : Out) : Type 0 wher
   pub program-check : programCheck (o .done .cause) ≡ true → o .done .state .unit ≡ s .unit
 
 refused-untouched : (c : Ccw) (s : State) (main store : List ℕ) (w : ℕ) → Untouched s main store (refused c s main store w)
-unfolding refused after withSense
+unfolding refused refusal after withSense
 refused-untouched c s main store w =
     let same : SameButSense (s .unit) (s .unit) = record { blocks-read = refl; blocks-written = refl; movements = refl; ready = refl; read-only = refl } in
     record {

@@ -22,7 +22,7 @@ use Rattle.model.specs.Rules.{_<?_, pick}
 use Rattle.model.specs.Lent.{fetched, blockCount}
 use Rattle.model.specs.Parameters.{extentLength, extentIn, locateLength, locatedIn, replicationIn, processed, address, outside}
 use Rattle.model.specs.Causes.{defineExtentCauses, locateCauses, transferCauses, a-locate}
-use Rattle.model.specs.Commands.{Out, after, extentSet, locateSet, noOperation, defineExtent, locate, sent, sense, senseType, readLog, read, write, wholeDevice, readIpl, refused, seen, step}
+use Rattle.model.specs.Commands.{Out, after, extentSet, locateSet, noOperation, defineExtent, locate, sent, sense, senseType, readLog, read, write, wholeDevice, readIpl, refused, refusal, seen, step}
 use Rattle.model.specs.Chain.{start}
 use Rattle.model.proofs.Picks.{pick-ind, pick-true, pick-false}
 use Rattle.model.proofs.Verdicts.{Failed, either-false, both-false}
@@ -108,7 +108,7 @@ safe-seen c s blocks h = record { extent = h .extent; located = h .located }
 
 module _ (size : ℕ) (c : Ccw) (s : State) (main store : List ℕ) (some : 0 < blockCount size store) (h : Safe s (blockCount size store)) where
   safe-cases : Cases size c s main store (λ o. Safe (o .done .state) (blockCount size store))
-  unfolding noOperation defineExtent locate read write readIpl sense senseType readLog sent refused seen after extentSet locateSet wholeDevice address
+  unfolding noOperation defineExtent locate read write readIpl sense senseType readLog sent refused refusal seen after extentSet locateSet wholeDevice address
   safe-cases =
       let n : ℕ = blockCount size store in
       let t : State = seen c s in

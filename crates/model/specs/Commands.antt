@@ -3,7 +3,7 @@
 --     begun      the blocks that so many bytes begin
 --     noOperation, defineExtent, locate, read, write, readIpl, sense, senseType, readLog
 --                an accepted command
---     refused    a command that was given a cause
+--     refusal    a command that was given a cause, and `refused` with the storages that it leaves alone
 --     step       one command: refused by the first of its causes that holds, or else accepted
 -- `size` is the block size of the device. Assumes nothing.
 use Prim.Native.Nat.{ℕ, _+_, _-_, _*_, _/_, min}
@@ -132,11 +132,13 @@ module _ (size : ℕ) where
       (readLog c s main store))))))))
 
 -- a refused command moves nothing; a program check leaves the record as it is, a unit check gives it new sense
+unfoldable pub refusal : State → ℕ → List ℕ → Done
+refusal s cause parameters =
+    let u = pick (programCheck cause) (s .unit) (withSense (s .unit) (senseOf cause parameters)) in
+    record { state = after s u Other; cause = cause; moved = 0; can = 0; blocks = 0 }
+
 unfoldable pub refused : Ccw → State → List ℕ → List ℕ → ℕ → Out
-refused c s main store cause =
-    let sensed = withSense (s .unit) (senseOf cause (fetched c main locateLength)) in
-    let u = pick (programCheck cause) (s .unit) sensed in
-    out (record { state = after s u Other; cause = cause; moved = 0; can = 0; blocks = 0 }) main store
+refused c s main store cause = out (refusal s cause (fetched c main locateLength)) main store
 
 -- "Each command that the unit sees, other than 03 and 04, zeroes the pending sense before its tests"
 unfoldable pub seen : Ccw → State → State
