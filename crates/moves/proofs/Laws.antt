@@ -1,14 +1,17 @@
 -- Laws of `zeros`, `part`, `put` and `pad`: their lengths, what is read at a place, and that bytes stay bytes.
 -- No contract cites this file.
 use Prim.Native.Nat.{ℕ, zero, suc, _+_, _-_, _≤_, _<_, min}
+use native.Mathlib.Nat.{zero-add, zero-min, min-zero, suc-min-suc}
 use mathlib.Core.Path.{_≡_, refl, sym, ap, _∙_}
 use mathlib.Core.Bool.{Bool, true, false}
-use mathlib.Core.List.{List, [], _∷_, _++_}
+use mathlib.Core.List.{List, [], _∷_, _++_, append-assoc, append-nil}
 use native.Mathlib.Omega.{arith}
 use lib.Dec.{ltb}
-use lib.ListN.{length, getD, take, drop, replicate, length-append, length-take, length-drop, length-replicate, List·getD-append}
-use lib.Seq.{length-take-le, take-add, take-at, drop-at, getD-take, getD-drop, getD-append-add}
+use lib.ListN.{length, getD, set, take, drop, replicate, length-append, length-take, length-drop, length-replicate, take-append-drop, drop-of-length-le, List·getD-append}
+use lib.Seq.{length-take-le, take-length, drop-length, drop-drop, drop-append-le, take-add, take-at, drop-at, getD-take, getD-drop, getD-append-add}
+use borrow.Author.Fill.{fill-more}
 use borrow.Author.Tests.{ltb-true, ltb-false}
+use borrow.Rule.Slice.PartMut.{midOf, putMid, mid-len, post-is}
 use Rattle.numbers.specs.Bytes.{AreBytes}
 use Rattle.numbers.proofs.Bytes.{bytes-nil, bytes-cons, bytes-append, bytes-take, bytes-drop}
 use Rattle.moves.specs.Parts.{zeros, part, put, pad}
@@ -90,6 +93,78 @@ part-between p q r at n e f = rw (drop-at p (q ++ r) at e) (take-at q r n f)
 pub take-part : (l : List ℕ) (at n : ℕ) → take at l ++ part l at n ≡ take (at + n) l
 unfolding part
 take-part l at n = sym (take-add at n l)
+
+-- put at the front
+
+-- all of `bytes` is copied over the front of l
+pub put-copied : (l bytes : List ℕ) → take (length bytes) bytes ++ drop (length bytes) l ≡ put l 0 bytes
+unfolding put
+put-copied l bytes = rw (take-length, zero-add)
+
+pub put-none : (l : List ℕ) → put l 0 (zeros 0) ≡ l
+unfolding put zeros
+put-none l = refl
+
+-- as many bytes as there are
+pub put-all : (l bytes : List ℕ) → length bytes ≡ length l → put l 0 bytes ≡ bytes
+unfolding put
+put-all l bytes e = rw (zero-add, e, drop-length) (append-nil bytes)
+
+-- one more byte is cleared
+pub put-zeros-more : (l : List ℕ) (n : ℕ) → n < length l → set (put l 0 (zeros n)) n 0 ≡ put l 0 (zeros (n + 1))
+unfolding put zeros
+put-zeros-more l n h = simp (length-replicate, zero-add) (fill-more n 0 l h)
+
+-- a part that was lent as `&mut l[at..]` or `&mut l[at..at + n]`, and is back
+
+-- the callee put bytes at the part's front
+pub put-lent-front : (l bytes back : List ℕ) (at k : ℕ) → back ≡ put (midOf at k l) 0 bytes → length bytes ≤ k → at + length bytes ≤ length l
+    → putMid at k l back ≡ put l at bytes
+unfolding put
+put-lent-front l bytes back at k e h m =
+    let f : length bytes ≤ length (midOf at k l) = simp (length-take, length-drop) (omega arith) in
+    rw (e, zero-add, append-assoc bytes, ← drop-append-le (length bytes) (midOf at k l) (drop k (drop at l)) f, take-append-drop, drop-drop, append-assoc)
+
+-- the callee made the part what it is; `e` is the call's `.kept`
+pub put-lent-whole : (l back : List ℕ) (at n : ℕ) → length back ≡ length (midOf at (at + n - at) l) → at + n ≤ length l → putMid at (at + n - at) l back ≡ put l at back
+unfolding put
+put-lent-whole l back at n e h =
+    let f : at + length back ≡ at + n = rw (e, mid-len at (at + n) l h) (omega arith) in
+    rw (f, post-is at (at + n) l (omega arith), append-assoc)
+
+-- what `&l[at..at + n]` lends
+pub part-lent : (l : List ℕ) (at n : ℕ) → midOf at (at + n - at) l ≡ part l at n
+unfolding part
+part-lent l at n =
+    let e : at + n - at ≡ n = omega arith in
+    rw e
+
+-- bytes that fit are copied, and the rest is cleared
+
+pub take-fits : (n : ℕ) (l : List ℕ) → take (min n (length l)) l ≡ take n l
+take-fits zero l = rw zero-min
+take-fits (suc n) [] = rw min-zero
+take-fits (suc n) (b ∷ l) = rw (suc-min-suc, take-fits n l)
+
+pub pad-fits : (n : ℕ) (l : List ℕ) → take (min n (length l)) l ++ zeros (n - min n (length l)) ≡ pad n l
+unfolding pad
+pad-fits n l =
+    let e : n - min n (length l) ≡ n - length l = omega arith in
+    rw (take-fits, e)
+
+-- `d` is the block, `b` the block with the bytes copied, `back` what `&mut b[n..]` came back as
+pub pad-cleared : (d l b back : List ℕ) (n : ℕ) → n ≡ min (length d) (length l) → b ≡ put d 0 (take n l) → back ≡ zeros (length (midOf n (length b - n) b))
+    → putMid n (length b - n) b back ≡ pad (length d) l
+unfolding put
+pad-cleared d l b back n hn hb hc =
+    let ln : length (take n l) ≡ n = length-take-le n l (omega arith) in
+    let eb : b ≡ take n l ++ drop n d = rw (ln, zero-add) at hb in
+    let lb : length b ≡ length d = rw hb (length-put d 0 (take n l) (rw ln (omega arith))) in
+    let front : take n b ≡ take n l = rw eb (take-at (take n l) (drop n d) n ln) in
+    let short : length (drop n b) ≤ length b - n = simp length-drop (omega arith) in
+    let none : drop (length b - n) (drop n b) ≡ [] = drop-of-length-le (drop n b) short in
+    let lc : length (midOf n (length b - n) b) ≡ length d - n = simp (length-take, length-drop) (omega arith) in
+    rw (front, none, append-nil, hc, lc, hn) (pad-fits (length d) l)
 
 -- bytes stay bytes
 
