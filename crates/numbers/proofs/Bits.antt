@@ -3,31 +3,17 @@
 --     sum-of-powers   a byte is the sum of its bits times powers of two
 --     flags-example   bits that a mask picks out: how a user compares a mask with `anyBit`
 use Prim.Native.Nat.{ℕ, zero, suc, _+_, _-_, _*_, _/_, _%_, _^_, _<_}
-use mathlib.Core.Path.{_≡_, refl, sym, ap, _∙_}
-use mathlib.Core.Bool.{Bool, not}
-use mathlib.Core.List.{List, [], _∷_}
-use native.Mathlib.Nat.{add-zero, zero-add, add-suc, suc-add, le-of-suc-le-suc, not-suc-le-zero}
+use mathlib.Core.Path.{_≡_, refl}
+use mathlib.Core.Bool.{not}
+use mathlib.Core.List.{[], _∷_}
 use lib.Dec.{eqb}
 use lib.Bits.{bitAnd}
-use lib.ListN.{getD}
+use Rattle.numbers.proofs.Tables.{values, same-upto}
 use Rattle.numbers.specs.Bits.{bit, anyBit}
-
--- f i, f (i + 1), .., n of them
-abbrev pub values : {A : Type 0} → (ℕ → A) → ℕ → ℕ → List A
-values f i zero = []
-values f i (suc n) = f i ∷ values f (suc i) n
-
-value-at : {A : Type 0} (f : ℕ → A) (d : A) (n i k : ℕ) → k < n → getD (values f i n) k d ≡ f (i + k)
-value-at f d zero i k h = absurd (not-suc-le-zero h)
-value-at f d (suc n) i zero h = ap f (sym (add-zero i))
-value-at f d (suc n) i (suc k) h = value-at f d n (suc i) k (le-of-suc-le-suc h) ∙ ap f (suc-add i k ∙ sym (add-suc i k))
 
 -- use: `same-on-bytes f g refl b h`, where antt computes both lists and compares them
 pub same-on-bytes : {A : Type 0} (f g : ℕ → A) → values f 0 256 ≡ values g 0 256 → (k : ℕ) → k < 256 → f k ≡ g k
-same-on-bytes {A} f g e k h = sym (read f) ∙ ap (λ (l : List A). getD l k (f 0)) e ∙ read g
-  where
-    read : (x : ℕ → A) → getD (values x 0 256) k (f 0) ≡ x k
-    read x = value-at x (f 0) 256 0 k h ∙ ap x (zero-add k)
+same-on-bytes f g e k h = same-upto f g 256 e k h
 
 -- the bits from n on, each times its power of two, k of them
 abbrev pub powers : ℕ → ℕ → ℕ → ℕ
