@@ -21,7 +21,7 @@ use Rattle.model.specs.Names.{read-replicated}
 use Rattle.model.specs.Rules.{_<?_, pick}
 use Rattle.model.specs.Lent.{fetched, blockCount}
 use Rattle.model.specs.Parameters.{extentLength, extentIn, locateLength, locatedIn, replicationIn, processed, address, outside}
-use Rattle.model.specs.Causes.{defineExtentCauses, locateCauses, transferCauses, a-locate}
+use Rattle.model.specs.Causes.{extentCauses, defineExtentCauses, locationCauses, locateCauses, transferCauses, a-locate}
 use Rattle.model.specs.Commands.{Out, after, extentSet, locateSet, noOperation, defineExtent, locate, sent, sense, senseType, readLog, read, write, wholeDevice, readIpl, refused, refusal, seen, step}
 use Rattle.model.specs.Chain.{start}
 use Rattle.model.proofs.Picks.{pick-ind, pick-true, pick-false}
@@ -39,7 +39,7 @@ pub record DefineOk (c : Ccw) (e : Extent) (blocks : ℕ) : Type 0 where
   pub placed : OnDevice e blocks
 
 pub define-ok : (size blocks : ℕ) (c : Ccw) (s : State) (p : List ℕ) → Failed (defineExtentCauses size blocks c s p) → DefineOk c (extentIn p) blocks
-unfolding defineExtentCauses
+unfolding defineExtentCauses extentCauses
 define-ok size blocks c s p f = record {
   long = ltb-false _ _ (f .0);
   placed = record { order = ltb-false _ _ (f .1 .1 .1 .1 .1 .0); inside = ltb-true _ _ (not-false _ (f .1 .1 .1 .1 .1 .1 .0)) };
@@ -57,14 +57,14 @@ pub record LocateOk (c : Ccw) (s : State) (l : Located) : Type 0 where
 
 -- a replicated read processes at least the blocks of one unit
 processed-covers : (c : Ccw) (s : State) (p : List ℕ) → Failed (locateCauses c s p) → locatedIn p .blocks ≤ processed p
-unfolding locateCauses processed
+unfolding locateCauses locationCauses processed
 processed-covers c s p f =
     pick-ind (λ (n : ℕ). locatedIn p .blocks ≤ n) _ _ _
     (λ b. ltb-false _ _ (either-false _ _ (both-false _ _ (f .1 .1 .1 .1 .1 .0) b) .0))
     (λ b. omega arith)
 
 pub locate-ok : (c : Ccw) (s : State) (p : List ℕ) → Failed (locateCauses c s p) → LocateOk c s (locatedIn p)
-unfolding locateCauses outside
+unfolding locateCauses locationCauses outside
 locate-ok c s p f =
     let k = processed-covers c s p f in
     let n = eqb-false (locatedIn p .blocks) 0 (either-false _ _ (f .1 .1 .1 .1 .0) .0) in

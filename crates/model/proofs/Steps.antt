@@ -19,7 +19,7 @@ use Rattle.model.specs.Names.{NO-OPERATION, DEFINE-EXTENT, LOCATE, READ,
 use Rattle.model.specs.Rules.{_=?_, pick, oneOf, Rule, firstOf}
 use Rattle.model.specs.Lent.{fetched, blockCount}
 use Rattle.model.specs.Parameters.{extentLength, locateLength, reads, writes}
-use Rattle.model.specs.Causes.{channelCauses, commands, unitCauses, defineExtentCauses, locateCauses, readIplCauses, transferCauses, ownCauses, causesOf, verdict}
+use Rattle.model.specs.Causes.{channelCauses, commands, unitCauses, extentCauses, defineExtentCauses, locationCauses, locateCauses, readIplCauses, transferCauses, ownCauses, causesOf, verdict}
 use Rattle.model.specs.Commands.{Out, noOperation, defineExtent, locate, read, write, readIpl, sense, senseType, readLog, accepted, refused, seen, step}
 use Rattle.model.proofs.Picks.{pick-ind, pick-true, pick-false}
 use Rattle.model.proofs.Verdicts.{Failed, absent, failed-upto, failed-all, both-false}
@@ -159,7 +159,7 @@ pub record Cases (size : ℕ) (c : Ccw) (s : State) (main store : List ℕ) (P :
   pub read-log : Admitted c main → c .command ≡ READ-LOG → P (readLog c (seen c s) main store)
 
 accepted-cases : (size : ℕ) (c : Ccw) (s : State) (main store : List ℕ) (P : Out → Type 0) → Cases size c s main store P → verdict size c s main store ≡ 0 → P (accepted size c (seen c s) main store)
-unfolding channelCauses unitCauses defineExtentCauses locateCauses readIplCauses transferCauses
+unfolding channelCauses unitCauses defineExtentCauses extentCauses locateCauses locationCauses readIplCauses transferCauses
 accepted-cases size c s main store P k e =
     let p = past-channel size c s main store 0 refl e in
     let a = p .0 in

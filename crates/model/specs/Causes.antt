@@ -3,8 +3,8 @@
 --     hostCauses            1 to 6             the same, where the unit record comes as bytes
 --     channelCauses         13, 10, 11, 12     the channel's own tests of a command: program checks
 --     unitCauses            44, 43             the unit's tests of any command that it sees
---     defineExtentCauses    20 to 26           the commands' own tests
---     locateCauses          30 to 39
+--     defineExtentCauses    20 to 26           the commands' own tests; from 22 on in extentCauses
+--     locateCauses          30 to 39           from 32 on in locationCauses
 --     readIplCauses         40
 --     transferCauses        41, 42             READ and WRITE
 --     causesOf              all the lines that can apply to a command, in order; `verdict` is the first that holds
@@ -66,26 +66,30 @@ unitCauses c s =
     ∷ 43 when not (oneOf commands (c .command))
     ∷ []
 
--- DEFINE EXTENT, by its parameters, on a device of so many blocks
-unfoldable pub defineExtentCauses : ℕ → ℕ → Ccw → State → List ℕ → List Rule
-defineExtentCauses size blocks c s p =
+-- DEFINE EXTENT: whether it may stand here, then what its parameters say on a device of so many blocks
+
+unfoldable pub extentCauses : ℕ → ℕ → List ℕ → List Rule
+extentCauses size blocks p =
     let e = extentIn p in
-    20 when (c .count <? extentLength)
-    ∷ 21 when s .defined
-    ∷ 22 when ((bit (e .mask) 0 && not (bit (e .mask) 1)) || anyBit (e .mask) (2 ∷ 3 ∷ 6 ∷ 7 ∷ []) || not (reservedIn p =? 0))
+    22 when ((bit (e .mask) 0 && not (bit (e .mask) 1)) || anyBit (e .mask) (2 ∷ 3 ∷ 6 ∷ 7 ∷ []) || not (reservedIn p =? 0))
     ∷ 23 when bit (e .mask) 4
     ∷ 24 when not (oneOf (0 ∷ size ∷ []) (sizeIn p))
     ∷ 25 when (e .last .0 <? e .first .0)
     ∷ 26 when not (address e (e .last) <? blocks)
     ∷ []
 
--- LOCATE, by its parameters. 32: 002, 2.1.4, ignores modifier bit 3 where there is no untagged DEVICE END
-unfoldable pub locateCauses : Ccw → State → List ℕ → List Rule
-locateCauses c s p =
+unfoldable pub defineExtentCauses : ℕ → ℕ → Ccw → State → List ℕ → List Rule
+defineExtentCauses size blocks c s p =
+    20 when (c .count <? extentLength)
+    ∷ 21 when s .defined
+    ∷ extentCauses size blocks p
+
+-- LOCATE: the same. 32: 002, 2.1.4, ignores modifier bit 3 where there is no untagged DEVICE END
+
+unfoldable pub locationCauses : State → List ℕ → List Rule
+locationCauses s p =
     let l = locatedIn p in
-    30 when not (s .defined)
-    ∷ 31 when (c .count <? locateLength)
-    ∷ 32 when anyBit (modifiersIn p) (0 ∷ 1 ∷ 2 ∷ [])
+    32 when anyBit (modifiersIn p) (0 ∷ 1 ∷ 2 ∷ [])
     ∷ 33 when not (oneOf operations (l .operation))
     ∷ 34 when (l .blocks =? 0 || (l .operation =? format && not (l .blocks =? 1)))
     ∷ 35 when (l .operation =? read-replicated && (replicationIn p <? l .blocks || not (replicationIn p % l .blocks =? 0)))
@@ -94,6 +98,12 @@ locateCauses c s p =
     ∷ 38 when (not (s .unit .«read_only» =? 0) && (writes (l .operation) || l .operation =? format))
     ∷ 39 when (l .operation =? format)
     ∷ []
+
+unfoldable pub locateCauses : Ccw → State → List ℕ → List Rule
+locateCauses c s p =
+    30 when not (s .defined)
+    ∷ 31 when (c .count <? locateLength)
+    ∷ locationCauses s p
 
 -- the command directly before
 
