@@ -25,7 +25,7 @@ use Rattle.model.specs.Names.{NO-OPERATION, DEFINE-EXTENT, LOCATE, READ,
 use Rattle.model.specs.Rules.{_<?_, _=?_, pick, Rule, _when_, firstOf}
 use Rattle.model.specs.Lent.{ccwAt, fetched, delivered, blockStart, blockCount, blocksFrom, blocksInto}
 use Rattle.model.specs.Parameters.{extentLength, locateLength, reads, writes}
-use Rattle.model.specs.Causes.{channelCauses, unitCauses, extentCauses, defineExtentCauses, locationCauses, locateCauses, readIplCauses, transferCauses, ownCauses, causesOf, verdict}
+use Rattle.model.specs.Causes.{channelCauses, unitCauses, extentCauses, defineExtentCauses, permissionCauses, locationCauses, locateCauses, readIplCauses, transferCauses, ownCauses, causesOf, verdict}
 use Rattle.model.specs.Sense.{SenseRow, senseTable, rowIn, senseOf}
 use Rattle.model.specs.Log.{withSense, withCounts, added3, added2, readCounted, writtenCounted, movementCounted, logOf, logReset}
 use Rattle.model.specs.Commands.{Out, out, noOperation, defineExtent, locate, sent, sense, senseType, readLog, begun, read, write, readIpl, refused, refusal, seen, after, extentSet, locateSet, step}
@@ -169,7 +169,7 @@ sense-length w p h =
     length-put-is 24 _ _ _ (length-put-is 24 _ _ _ (length-put-is 24 _ _ _ (length-zeros 24) (omega arith)) (omega arith)) (rw k (omega arith))
 
 located-long : (c : Ccw) (s : State) (p : List ℕ) → firstOf (locateCauses c s p) ≡ 39 → locateLength ≤ c .count
-unfolding locateCauses locationCauses firstOf
+unfolding locateCauses locationCauses permissionCauses firstOf
 located-long c s p e = ltb-false _ _ (peel _ _ _ 39 (λ z. omega arith) (peel _ _ _ 39 (λ z. omega arith) e .1) .0)
 
 -- where the verdict is 39 the command is a LOCATE whose eight bytes were there
@@ -201,7 +201,7 @@ unfolding firstOf
 small-all rs e = rw append-nil at (small-first rs [] e (omega arith))
 
 verdict-small : (size : ℕ) (c : Ccw) (s : State) (main store : List ℕ) → verdict size c s main store < 256
-unfolding verdict causesOf channelCauses unitCauses defineExtentCauses extentCauses locateCauses locationCauses readIplCauses transferCauses small-causes
+unfolding verdict causesOf channelCauses unitCauses defineExtentCauses extentCauses locateCauses locationCauses permissionCauses readIplCauses transferCauses small-causes
 verdict-small size c s main store =
     small-first (channelCauses c main ++ unitCauses c s) (ownCauses size c s main store) refl
     (own-cases size c s main store (λ rs. firstOf rs < 256)

@@ -21,7 +21,7 @@ use Rattle.model.specs.Names.{read-replicated}
 use Rattle.model.specs.Rules.{_<?_, pick}
 use Rattle.model.specs.Lent.{fetched, blockCount}
 use Rattle.model.specs.Parameters.{extentLength, extentIn, locateLength, locatedIn, replicationIn, processed, address, outside}
-use Rattle.model.specs.Causes.{extentCauses, defineExtentCauses, locationCauses, locateCauses, transferCauses, a-locate}
+use Rattle.model.specs.Causes.{extentCauses, defineExtentCauses, permissionCauses, locationCauses, locateCauses, transferCauses, a-locate}
 use Rattle.model.specs.Commands.{Out, after, extentSet, locateSet, noOperation, defineExtent, locate, sent, sense, senseType, readLog, read, write, wholeDevice, readIpl, refused, refusal, seen, step}
 use Rattle.model.specs.Chain.{start}
 use Rattle.model.proofs.Picks.{pick-ind, pick-true, pick-false}
@@ -57,14 +57,14 @@ pub record LocateOk (c : Ccw) (s : State) (l : Located) : Type 0 where
 
 -- a replicated read processes at least the blocks of one unit
 processed-covers : (c : Ccw) (s : State) (p : List ℕ) → Failed (locateCauses c s p) → locatedIn p .blocks ≤ processed p
-unfolding locateCauses locationCauses processed
+unfolding locateCauses locationCauses permissionCauses processed
 processed-covers c s p f =
     pick-ind (λ (n : ℕ). locatedIn p .blocks ≤ n) _ _ _
     (λ b. ltb-false _ _ (either-false _ _ (both-false _ _ (f .1 .1 .1 .1 .1 .0) b) .0))
     (λ b. omega arith)
 
 pub locate-ok : (c : Ccw) (s : State) (p : List ℕ) → Failed (locateCauses c s p) → LocateOk c s (locatedIn p)
-unfolding locateCauses locationCauses outside
+unfolding locateCauses locationCauses permissionCauses outside
 locate-ok c s p f =
     let k = processed-covers c s p f in
     let n = eqb-false (locatedIn p .blocks) 0 (either-false _ _ (f .1 .1 .1 .1 .0) .0) in

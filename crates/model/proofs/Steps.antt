@@ -19,7 +19,7 @@ use Rattle.model.specs.Names.{NO-OPERATION, DEFINE-EXTENT, LOCATE, READ,
 use Rattle.model.specs.Rules.{_=?_, pick, oneOf, Rule, firstOf}
 use Rattle.model.specs.Lent.{fetched, blockCount}
 use Rattle.model.specs.Parameters.{extentLength, locateLength, reads, writes}
-use Rattle.model.specs.Causes.{channelCauses, commands, unitCauses, extentCauses, defineExtentCauses, locationCauses, locateCauses, readIplCauses, transferCauses, ownCauses, causesOf, verdict}
+use Rattle.model.specs.Causes.{channelCauses, commands, unitCauses, extentCauses, defineExtentCauses, permissionCauses, locationCauses, locateCauses, readIplCauses, transferCauses, ownCauses, causesOf, verdict}
 use Rattle.model.specs.Commands.{Out, noOperation, defineExtent, locate, read, write, readIpl, sense, senseType, readLog, accepted, refused, seen, step}
 use Rattle.model.proofs.Picks.{pick-ind, pick-true, pick-false}
 use Rattle.model.proofs.Verdicts.{Failed, absent, failed-upto, failed-all, both-false}
@@ -35,11 +35,11 @@ either-cases P true b e f g = f refl
 either-cases P false b e f g = g e
 
 -- a number is the first of those listed, or among the others
-one-of : (P : Type 0) (k : ℕ) (ks : List ℕ) (n : ℕ) → oneOf (k ∷ ks) n ≡ true → (n ≡ k → P) → (oneOf ks n ≡ true → P) → P
+pub one-of : (P : Type 0) (k : ℕ) (ks : List ℕ) (n : ℕ) → oneOf (k ∷ ks) n ≡ true → (n ≡ k → P) → (oneOf ks n ≡ true → P) → P
 unfolding oneOf
 one-of P k ks n e f g = either-cases P _ _ e (λ b. f (eqb-true n k b)) g
 
-none-of : (n : ℕ) → oneOf [] n ≡ true → ⊥
+pub none-of : (n : ℕ) → oneOf [] n ≡ true → ⊥
 unfolding oneOf
 none-of n e = false≢true e
 
@@ -159,7 +159,7 @@ pub record Cases (size : ℕ) (c : Ccw) (s : State) (main store : List ℕ) (P :
   pub read-log : Admitted c main → c .command ≡ READ-LOG → P (readLog c (seen c s) main store)
 
 accepted-cases : (size : ℕ) (c : Ccw) (s : State) (main store : List ℕ) (P : Out → Type 0) → Cases size c s main store P → verdict size c s main store ≡ 0 → P (accepted size c (seen c s) main store)
-unfolding channelCauses unitCauses defineExtentCauses extentCauses locateCauses locationCauses readIplCauses transferCauses
+unfolding channelCauses unitCauses defineExtentCauses extentCauses locateCauses locationCauses permissionCauses readIplCauses transferCauses
 accepted-cases size c s main store P k e =
     let p = past-channel size c s main store 0 refl e in
     let a = p .0 in

@@ -1,6 +1,8 @@
 -- What a verdict tells of its table, and a table of its verdict.
 --     Failed        no rule of a table holds
 --     absent        a table has no line for this cause: a test that antt computes
+--     first-here, first-later, first-none
+--                   a table read line by line: the verdict is here, or in the rest, or there is none
 --     failed-upto   a verdict that the front of a table does not give: no rule there holds, and the rest gives it
 --     none-given    where no rule holds the verdict is 0
 --     never-given   a cause that no line of a table has is not its verdict
@@ -36,6 +38,18 @@ both-false false b e f = absurd (false≢true f)
 pub either-false : (a b : Bool) → a || b ≡ false → (a ≡ false) × (b ≡ false)
 either-false true b e = absurd (true≢false e)
 either-false false b e = (refl, e)
+
+pub first-here : (r : Rule) (rs : List Rule) → r .holds ≡ true → firstOf (r ∷ rs) ≡ r .cause
+unfolding firstOf pick
+first-here r rs e = rw e
+
+pub first-later : (r : Rule) (rs : List Rule) → r .holds ≡ false → firstOf (r ∷ rs) ≡ firstOf rs
+unfolding firstOf pick
+first-later r rs e = rw e
+
+pub first-none : firstOf [] ≡ 0
+unfolding firstOf
+first-none = refl
 
 -- the first line of a table does not give this verdict: its rule does not hold, and the rest gives it
 pub peel : (b : Bool) (k r w : ℕ) → (k ≡ w → ⊥) → pick b k r ≡ w → (b ≡ false) × (r ≡ w)

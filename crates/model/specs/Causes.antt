@@ -4,7 +4,7 @@
 --     channelCauses         13, 10, 11, 12     the channel's own tests of a command: program checks
 --     unitCauses            44, 43             the unit's tests of any command that it sees
 --     defineExtentCauses    20 to 26           the commands' own tests; from 22 on in extentCauses
---     locateCauses          30 to 39           from 32 on in locationCauses
+--     locateCauses          30 to 39           from 32 on in locationCauses, from 36 on in permissionCauses
 --     readIplCauses         40
 --     transferCauses        41, 42             READ and WRITE
 --     causesOf              all the lines that can apply to a command, in order; `verdict` is the first that holds
@@ -15,6 +15,7 @@ use mathlib.Core.List.{List, [], _∷_, _++_}
 use lib.ListN.{length}
 use Rattle.numbers.specs.Bits.{bit, anyBit}
 use Rattle.model.specs.declared.ccw.Ccw.{Ccw}
+use Rattle.model.specs.declared.extent.Located.{Located}
 use Rattle.model.specs.declared.state.Before.{Before}
 use Rattle.model.specs.declared.state.Before.the-variants.{Nothing, ReadIpl, Locate, Other}
 use Rattle.model.specs.declared.state.State.{State}
@@ -84,7 +85,16 @@ defineExtentCauses size blocks c s p =
     ∷ 21 when s .defined
     ∷ extentCauses size blocks p
 
--- LOCATE: the same. 32: 002, 2.1.4, ignores modifier bit 3 where there is no untagged DEVICE END
+-- LOCATE: whether it may stand here, what its parameters say, then whether extent, mask, switch and alternates allow n blocks so
+-- 32: 002, 2.1.4, ignores modifier bit 3 where there is no untagged DEVICE END
+
+unfoldable pub permissionCauses : State → Located → ℕ → List Rule
+permissionCauses s l n =
+    36 when outside (s .extent) (l .displacement) n
+    ∷ 37 when forbids (s .extent .mask) (l .operation)
+    ∷ 38 when (not (s .unit .«read_only» =? 0) && (writes (l .operation) || l .operation =? format))
+    ∷ 39 when (l .operation =? format)
+    ∷ []
 
 unfoldable pub locationCauses : State → List ℕ → List Rule
 locationCauses s p =
@@ -93,11 +103,7 @@ locationCauses s p =
     ∷ 33 when not (oneOf operations (l .operation))
     ∷ 34 when (l .blocks =? 0 || (l .operation =? format && not (l .blocks =? 1)))
     ∷ 35 when (l .operation =? read-replicated && (replicationIn p <? l .blocks || not (replicationIn p % l .blocks =? 0)))
-    ∷ 36 when outside (s .extent) (l .displacement) (processed p)
-    ∷ 37 when forbids (s .extent .mask) (l .operation)
-    ∷ 38 when (not (s .unit .«read_only» =? 0) && (writes (l .operation) || l .operation =? format))
-    ∷ 39 when (l .operation =? format)
-    ∷ []
+    ∷ permissionCauses s l (processed p)
 
 unfoldable pub locateCauses : Ccw → State → List ℕ → List Rule
 locateCauses c s p =

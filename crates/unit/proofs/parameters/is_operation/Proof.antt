@@ -1,0 +1,23 @@
+use Rattle.model.specs.Rules.{oneOf}
+use borrow.Author.Needs.{needs}
+use Rattle.unit.proofs.parameters.is_operation.Statement.{statement}
+use Rattle.unit.proofs.parameters.is_operation.Tie as tie
+use Rattle.unit.proofs.parameters.is_operation.Reads as reads
+use Rattle.unit.proofs.parameters.is_operation.Lts as lts
+use Rattle.numbers.proofs.wide.Reads as wide-reads
+
+-- src/parameters.rt:181:9
+wide-requires : tie.Need-wide-requires
+wide-requires c κs = search needs
+
+-- src/parameters.rt:182:5
+array-read-result : tie.Need-array-read-result
+array-read-result c = search needs
+
+-- src/parameters.rt:177:1
+returns : tie.Need-returns
+unfolding oneOf
+returns c = ?
+
+pub is-operation-spec : {M : Type 1} → statement M
+is-operation-spec = tie.close (tie.spec wide-requires array-read-result returns)
