@@ -1,1 +1,2 @@
 // How one command is done.
+pub mod transfer;
