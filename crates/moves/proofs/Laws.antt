@@ -1,4 +1,4 @@
--- Laws of `zeros`, `part`, `put` and `pad`: their lengths, what is read at a place, and that bytes stay bytes.
+-- Laws of `zeros`, `part`, `put` and `pad`: their lengths, what is read at a place, bytes after others, parts that were lent, and that bytes stay bytes.
 -- No contract cites this file.
 use Prim.Native.Nat.{ℕ, zero, suc, _+_, _-_, _≤_, _<_, min}
 use native.Mathlib.Nat.{zero-add, add-zero, suc-add, add-assoc, zero-min, min-zero, suc-min-suc, sub-zero, zero-sub, suc-sub-suc}
