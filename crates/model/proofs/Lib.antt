@@ -5,6 +5,7 @@ pub mod Refusals
 pub mod Endings
 pub mod Safety
 pub mod Lengths
+pub mod Blocks
 pub mod Fields
 pub mod Kept
 pub mod Records

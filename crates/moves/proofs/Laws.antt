@@ -1,14 +1,14 @@
--- Laws of `zeros`, `part`, `put` and `pad`: their lengths, what is read at a place, and that bytes stay bytes.
+-- Laws of `zeros`, `part`, `put` and `pad`: their lengths, what is read at a place, bytes after others, parts that were lent, and that bytes stay bytes.
 -- No contract cites this file.
 use Prim.Native.Nat.{ℕ, zero, suc, _+_, _-_, _≤_, _<_, min}
-use native.Mathlib.Nat.{zero-add, zero-min, min-zero, suc-min-suc}
+use native.Mathlib.Nat.{zero-add, add-zero, suc-add, add-assoc, zero-min, min-zero, suc-min-suc, sub-zero, zero-sub, suc-sub-suc}
 use mathlib.Core.Path.{_≡_, refl, sym, ap, _∙_}
 use mathlib.Core.Bool.{Bool, true, false}
 use mathlib.Core.List.{List, [], _∷_, _++_, append-assoc, append-nil}
 use native.Mathlib.Omega.{arith}
 use lib.Dec.{ltb}
 use lib.ListN.{length, getD, set, take, drop, replicate, length-append, length-take, length-drop, length-replicate, take-append-drop, drop-of-length-le, List·getD-append}
-use lib.Seq.{length-take-le, take-length, drop-length, drop-drop, drop-append-le, take-add, take-at, drop-at, getD-take, getD-drop, getD-append-add}
+use lib.Seq.{length-take-le, take-length, take-all, drop-nil, drop-length, drop-drop, drop-append-le, take-add, take-at, drop-at, getD-take, getD-drop, getD-append-add}
 use borrow.Author.Fill.{fill-more}
 use borrow.Author.Tests.{ltb-true, ltb-false}
 use borrow.Rule.Slice.PartMut.{midOf, putMid, mid-len, post-is}
@@ -36,6 +36,21 @@ length-put-is n l at bytes e h = length-put l at bytes (rw e h) ∙ e
 pub length-pad : (n : ℕ) (bytes : List ℕ) → length (pad n bytes) ≡ n
 unfolding pad
 length-pad n bytes = simp (length-append, length-take, length-zeros) (omega arith)
+
+-- `pad`, one byte at a time
+
+pub pad-zero : (bytes : List ℕ) → pad zero bytes ≡ []
+unfolding pad zeros
+pad-zero bytes = rw zero-sub
+
+pad-nil : (n : ℕ) → pad (suc n) [] ≡ 0 ∷ pad n []
+unfolding pad zeros
+pad-nil zero = refl
+pad-nil (suc n) = simp sub-zero
+
+pad-cons : (n b : ℕ) (bytes : List ℕ) → pad (suc n) (b ∷ bytes) ≡ b ∷ pad n bytes
+unfolding pad zeros
+pad-cons n b bytes = rw suc-sub-suc
 
 -- what is read at a place before, in and after the bytes that were put
 
@@ -84,6 +99,14 @@ pub get-part : (l : List ℕ) (at n i : ℕ) → i < n → getD (part l at n) i 
 unfolding part
 get-part l at n i h = getD-take n (drop at l) i 0 h ∙ getD-drop at l i 0
 
+-- past the bytes that were given a padded list reads zero, as `getD` does
+pub get-pad : (n : ℕ) (bytes : List ℕ) (i : ℕ) → i < n → getD (pad n bytes) i 0 ≡ getD bytes i 0
+get-pad zero bytes i h = absurd (omega arith)
+get-pad (suc n) [] zero h = rw pad-nil
+get-pad (suc n) [] (suc i) h = rw pad-nil (get-pad n [] i (omega arith))
+get-pad (suc n) (b ∷ bytes) zero h = rw pad-cons
+get-pad (suc n) (b ∷ bytes) (suc i) h = rw pad-cons (get-pad n bytes i (omega arith))
+
 -- a part that was put between two others
 pub part-between : (p q r : List ℕ) (at n : ℕ) → length p ≡ at → length q ≡ n → part (p ++ (q ++ r)) at n ≡ q
 unfolding part
@@ -93,6 +116,33 @@ part-between p q r at n e f = rw (drop-at p (q ++ r) at e) (take-at q r n f)
 pub take-part : (l : List ℕ) (at n : ℕ) → take at l ++ part l at n ≡ take (at + n) l
 unfolding part
 take-part l at n = sym (take-add at n l)
+
+-- no byte, and more bytes after some
+
+pub part-nil : (l : List ℕ) (at : ℕ) → part l at 0 ≡ []
+unfolding part
+part-nil l at = refl
+
+pub put-nil : (l : List ℕ) (at : ℕ) → put l at [] ≡ l
+unfolding put
+put-nil l at = rw (add-zero, append-nil, take-append-drop)
+
+pub part-more : (l : List ℕ) (at m n : ℕ) → part l at (m + n) ≡ part l at m ++ part l (at + m) n
+unfolding part
+part-more l at m n = rw (take-add, drop-drop)
+
+pub put-more : (l : List ℕ) (at : ℕ) (bytes more : List ℕ) → at ≤ length l → put (put l at bytes) (at + length bytes) more ≡ put l at (bytes ++ more)
+unfolding put
+put-more l at bytes more h =
+    let n : ℕ = at + length bytes in
+    let front : List ℕ = take at l ++ bytes in
+    let e : length front ≡ n = length-append (take at l) bytes ∙ ap (λ (k : ℕ). k + length bytes) (length-take-le at l h) in
+    rw (take-at front (drop n l) n e, ← drop-drop (length more) n (front ++ drop n l), drop-at front (drop n l) n e, drop-drop, length-append, ← add-assoc) (simp append-assoc)
+
+pub pad-more : (m n : ℕ) (bytes : List ℕ) → pad (m + n) bytes ≡ pad m bytes ++ pad n (drop m bytes)
+pad-more zero n bytes = rw (zero-add, pad-zero)
+pad-more (suc m) n [] = simp (suc-add, pad-nil, pad-more m n [], drop-nil)
+pad-more (suc m) n (b ∷ bytes) = simp (suc-add, pad-cons, pad-more m n bytes)
 
 -- put at the front
 
@@ -139,12 +189,35 @@ part-lent l at n =
     let e : at + n - at ≡ n = omega arith in
     rw e
 
+-- what `&l[at..]` lends
+pub rest-lent : (l : List ℕ) (at : ℕ) → midOf at (length l - at) l ≡ drop at l
+rest-lent l at =
+    let h : length (drop at l) ≤ length l - at = simp length-drop (omega arith) in
+    take-all (length l - at) (drop at l) h
+
+-- the callee filled the part
+pub put-lent-filled : (l bytes back : List ℕ) (at n : ℕ) → back ≡ pad (length (midOf at (at + n - at) l)) bytes → at + n ≤ length l
+    → putMid at (at + n - at) l back ≡ put l at (pad n bytes)
+put-lent-filled l bytes back at n e h =
+    let long : length (midOf at (at + n - at) l) ≡ n = mid-len at (at + n) l h ∙ omega arith in
+    let filled : back ≡ pad n bytes = rw long at e in
+    put-lent-whole l back at n (rw (filled, long) (length-pad n bytes)) h ∙ ap (put l at) filled
+
 -- bytes that fit are copied, and the rest is cleared
 
 pub take-fits : (n : ℕ) (l : List ℕ) → take (min n (length l)) l ≡ take n l
 take-fits zero l = rw zero-min
 take-fits (suc n) [] = rw min-zero
 take-fits (suc n) (b ∷ l) = rw (suc-min-suc, take-fits n l)
+
+pub drop-fits : (n : ℕ) (l : List ℕ) → drop (min n (length l)) l ≡ drop n l
+drop-fits zero l = rw zero-min
+drop-fits (suc n) [] = rw min-zero
+drop-fits (suc n) (b ∷ l) = rw suc-min-suc (drop-fits n l)
+
+-- what `&l[used..]` lends, where `used` bytes fitted
+pub rest-fits : (n used : ℕ) (l : List ℕ) → used ≡ min n (length l) → midOf used (length l - used) l ≡ drop n l
+rest-fits n used l e = rest-lent l used ∙ rw e (drop-fits n l)
 
 pub pad-fits : (n : ℕ) (l : List ℕ) → take (min n (length l)) l ++ zeros (n - min n (length l)) ≡ pad n l
 unfolding pad

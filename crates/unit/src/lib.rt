@@ -1,2 +1,3 @@
 // How one command is done.
 pub mod parameters;
+pub mod transfer;

@@ -1,0 +1,68 @@
+-- Blocks in a row are one part of the store, and blocks that are stored in turn are one put.
+--     blocks-from-part   what READ sees of n blocks
+--     get-blocks-from    a byte of those
+--     blocks-into-none   nothing is to be stored
+--     blocks-into-turn   block i of n is stored; those after it are still to be stored
+--     blocks-into-put    what WRITE leaves, with the bytes of all n blocks put at once
+--     get-blocks-into, get-blocks-before, get-blocks-after
+--                        a byte of those, and a byte of the blocks that WRITE does not reach
+-- No contract cites this file. Assumes nothing.
+use Prim.Native.Nat.{ℕ, zero, suc, _+_, _-_, _*_, _≤_, _<_}
+use mathlib.Core.Path.{_≡_, refl, sym, _∙_}
+use mathlib.Core.List.{List}
+use lib.ListN.{length, getD, drop}
+use native.Mathlib.Nat.{add-assoc, zero-mul}
+use native.Mathlib.Omega.{arith}
+use Rattle.moves.specs.Parts.{part, put, pad}
+use Rattle.moves.proofs.Laws.{length-put, length-pad, pad-zero, pad-more, part-nil, part-more, put-nil, put-more, get-before, get-in, get-after, get-pad, get-part}
+use Rattle.model.specs.Lent.{blockStart, blocksFrom, blocksInto}
+
+pub blocks-from-part : (size : ℕ) (store : List ℕ) (block n : ℕ) → blocksFrom size store block n ≡ part store (block * size) (n * size)
+unfolding blocksFrom blockStart
+blocks-from-part size store block zero = rw zero-mul (sym (part-nil store (block * size)))
+blocks-from-part size store block (suc n) =
+    let e : (block + 1) * size ≡ block * size + size = omega arith in
+    let f : suc n * size ≡ size + n * size = omega arith in
+    rw (f, part-more, blocks-from-part size store (block + 1) n, e)
+
+pub get-blocks-from : (size : ℕ) (store : List ℕ) (block n i : ℕ) → i < n * size → getD (blocksFrom size store block n) i 0 ≡ getD store (block * size + i) 0
+get-blocks-from size store block n i h = rw blocks-from-part (get-part store (block * size) (n * size) i h)
+
+pub blocks-into-none : (size : ℕ) (store : List ℕ) (block : ℕ) (bytes : List ℕ) → blocksInto size store block 0 bytes ≡ store
+unfolding blocksInto
+blocks-into-none size store block bytes = refl
+
+-- `left` is what is left of the bytes
+pub blocks-into-turn : (size : ℕ) (store stored : List ℕ) (block n i : ℕ) (bytes left : List ℕ)
+    → stored ≡ put store (blockStart size (block + i)) (pad size bytes) → left ≡ drop size bytes → i < n
+    → blocksInto size stored (block + (i + 1)) (n - (i + 1)) left ≡ blocksInto size store (block + i) (n - i) bytes
+unfolding blocksInto
+blocks-into-turn size store stored block n i bytes left e f h =
+    let more : n - i ≡ suc (n - (i + 1)) = omega arith in
+    rw (e, f, more, ← add-assoc)
+
+pub blocks-into-put : (size : ℕ) (store : List ℕ) (block n : ℕ) (bytes : List ℕ) → (block + n) * size ≤ length store
+    → blocksInto size store block n bytes ≡ put store (block * size) (pad (n * size) bytes)
+unfolding blocksInto blockStart
+blocks-into-put size store block zero bytes h = rw (zero-mul, pad-zero) (sym (put-nil store (block * size)))
+blocks-into-put size store block (suc n) bytes h =
+    let first : List ℕ = put store (block * size) (pad size bytes) in
+    let e : (block + 1) * size ≡ block * size + length (pad size bytes) = rw length-pad (omega arith) in
+    let f : suc n * size ≡ size + n * size = omega arith in
+    let l : length first ≡ length store = length-put store (block * size) (pad size bytes) (rw length-pad (omega arith)) in
+    blocks-into-put size first (block + 1) n (drop size bytes) (rw l (omega arith))
+    ∙ rw (e, put-more store (block * size) (pad size bytes) (pad (n * size) (drop size bytes)) (omega arith), f, pad-more)
+
+module _ (size : ℕ) (store : List ℕ) (block n : ℕ) (bytes : List ℕ) (h : (block + n) * size ≤ length store) where
+  -- the bytes put at once have as many places as the blocks
+  all-fit : block * size + length (pad (n * size) bytes) ≤ length store
+  all-fit = rw length-pad (omega arith)
+
+  pub get-blocks-into : (i : ℕ) → i < n * size → getD (blocksInto size store block n bytes) (block * size + i) 0 ≡ getD bytes i 0
+  get-blocks-into i k = rw (blocks-into-put size store block n bytes h) (get-in store _ (pad (n * size) bytes) i all-fit (rw length-pad k) ∙ get-pad _ bytes i k)
+
+  pub get-blocks-before : (i : ℕ) → i < block * size → getD (blocksInto size store block n bytes) i 0 ≡ getD store i 0
+  get-blocks-before i k = rw (blocks-into-put size store block n bytes h) (get-before store _ (pad (n * size) bytes) i all-fit k)
+
+  pub get-blocks-after : (i : ℕ) → (block + n) * size ≤ i → getD (blocksInto size store block n bytes) i 0 ≡ getD store i 0
+  get-blocks-after i k = rw (blocks-into-put size store block n bytes h) (get-after store _ (pad (n * size) bytes) i all-fit (rw length-pad (omega arith)))
