@@ -1,4 +1,5 @@
--- Laws of `zeros`, `part`, `put` and `pad`: their lengths, what is read at a place, and that bytes stay bytes.
+-- Laws of `zeros`, `part`, `put` and `pad`: their lengths, what is read at a place, that bytes stay bytes,
+-- and what a slice holds when a part that it lent (`midOf`, `putMid` of the kit) is back.
 -- No contract cites this file.
 use Prim.Native.Nat.{ℕ, zero, suc, _+_, _-_, _≤_, _<_, min}
 use native.Mathlib.Nat.{zero-add, zero-min, min-zero, suc-min-suc}
@@ -8,7 +9,7 @@ use mathlib.Core.List.{List, [], _∷_, _++_, append-assoc, append-nil}
 use native.Mathlib.Omega.{arith}
 use lib.Dec.{ltb}
 use lib.ListN.{length, getD, set, take, drop, replicate, length-append, length-take, length-drop, length-replicate, take-append-drop, drop-of-length-le, List·getD-append}
-use lib.Seq.{length-take-le, take-length, drop-length, drop-drop, drop-append-le, take-add, take-at, drop-at, getD-take, getD-drop, getD-append-add}
+use lib.Seq.{length-take-le, take-all, take-length, drop-length, drop-drop, drop-append-le, take-add, take-at, drop-at, getD-take, getD-drop, getD-append-add}
 use borrow.Author.Fill.{fill-more}
 use borrow.Author.Tests.{ltb-true, ltb-false}
 use borrow.Rule.Slice.PartMut.{midOf, putMid, mid-len, post-is}
@@ -101,9 +102,9 @@ pub put-copied : (l bytes : List ℕ) → take (length bytes) bytes ++ drop (len
 unfolding put
 put-copied l bytes = rw (take-length, zero-add)
 
-pub put-none : (l : List ℕ) → put l 0 (zeros 0) ≡ l
+pub put-zeros-none : (l : List ℕ) → put l 0 (zeros 0) ≡ l
 unfolding put zeros
-put-none l = refl
+put-zeros-none l = refl
 
 -- as many bytes as there are
 pub put-all : (l bytes : List ℕ) → length bytes ≡ length l → put l 0 bytes ≡ bytes
@@ -132,12 +133,26 @@ put-lent-whole l back at n e h =
     let f : at + length back ≡ at + n = rw (e, mid-len at (at + n) l h) (omega arith) in
     rw (f, post-is at (at + n) l (omega arith), append-assoc)
 
+-- the callee filled the part
+pub put-lent-pad : (l bytes back : List ℕ) (at n : ℕ) → back ≡ pad (length (midOf at (at + n - at) l)) bytes → at + n ≤ length l
+    → putMid at (at + n - at) l back ≡ put l at (pad n bytes)
+put-lent-pad l bytes back at n e h =
+    let f : length (midOf at (at + n - at) l) ≡ n = mid-len at (at + n) l h ∙ omega arith in
+    put-lent-whole l back at n (rw e (length-pad _ bytes)) h ∙ ap (put l at) (rw f at e)
+
 -- what `&l[at..at + n]` lends
 pub part-lent : (l : List ℕ) (at n : ℕ) → midOf at (at + n - at) l ≡ part l at n
 unfolding part
 part-lent l at n =
     let e : at + n - at ≡ n = omega arith in
     rw e
+
+-- the first n bytes of what `&l[at..]` lends
+pub part-lent-tail : (l : List ℕ) (at n : ℕ) → take n (midOf at (length l - at) l) ≡ part l at n
+unfolding part
+part-lent-tail l at n =
+    let e : length (drop at l) ≤ length l - at = simp length-drop (omega arith) in
+    rw (take-all (length l - at) (drop at l) e)
 
 -- bytes that fit are copied, and the rest is cleared
 

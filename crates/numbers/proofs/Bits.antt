@@ -1,10 +1,10 @@
--- Laws of a byte's bits, each by computing all 256 bytes. No contract cites this file.
+-- Laws of a byte's bits, each by computing it for all 256 bytes. No contract cites this file.
 --     same-on-bytes   two functions with the same 256 values agree at every byte
 --     sum-of-powers   a byte is the sum of its bits times powers of two
---     flags-example   bits that a mask picks out: how a user compares a mask with `anyBit`
+--     flags-example   how a user compares a mask with `anyBit`
 use Prim.Native.Nat.{ℕ, zero, suc, _+_, _-_, _*_, _/_, _%_, _^_, _<_}
 use mathlib.Core.Path.{_≡_, refl, sym, ap, _∙_}
-use mathlib.Core.Bool.{Bool, not}
+use mathlib.Core.Bool.{not}
 use mathlib.Core.List.{List, [], _∷_}
 use native.Mathlib.Nat.{add-zero, zero-add, add-suc, suc-add, le-of-suc-le-suc, not-suc-le-zero}
 use lib.Dec.{eqb}
@@ -37,6 +37,7 @@ powers b n (suc k) = b / 2 ^ (7 - n) % 2 * 2 ^ (7 - n) + powers b (suc n) k
 pub sum-of-powers : (b : ℕ) → b < 256 → b ≡ powers b 0 8
 sum-of-powers b h = same-on-bytes (λ (x : ℕ). x) (λ (x : ℕ). powers x 0 8) refl b h
 
+-- a test by a mask, `f & 0x9F != 0` in code, against the list of the bits it picks; any other mask goes the same way
 pub flags-example : (f : ℕ) → f < 256 → not (eqb (bitAnd f 0x9F) 0) ≡ anyBit f (0 ∷ 3 ∷ 4 ∷ 5 ∷ 6 ∷ 7 ∷ [])
 unfolding anyBit bit
 flags-example f h = same-on-bytes (λ (x : ℕ). not (eqb (bitAnd x 0x9F) 0)) (λ (x : ℕ). anyBit x (0 ∷ 3 ∷ 4 ∷ 5 ∷ 6 ∷ 7 ∷ [])) refl f h
