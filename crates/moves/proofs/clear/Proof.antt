@@ -6,7 +6,7 @@ use Prim.Native.Nat.{_≤_, _-_}
 use native.Mathlib.Omega.{arith}
 use lib.ListN.{length}
 use Rattle.moves.specs.Parts.{zeros, put}
-use Rattle.moves.proofs.Laws.{length-zeros, put-none, put-all, put-zeros-more}
+use Rattle.moves.proofs.Laws.{length-zeros, put-zeros-none, put-all, put-zeros-more}
 use Rattle.moves.proofs.clear.Statement.{statement}
 use Rattle.moves.proofs.clear.Tie as tie
 
@@ -17,7 +17,7 @@ abbrev μ-loop : tie.MeasureT-loop
 μ-loop to₀ i₀ i-end to i = i-end - i
 
 loop-holds : tie.Need-loop-holds Inv-loop μ-loop
-loop-holds c = (search needs, search needs, search needs, sym (put-none _))
+loop-holds c = (search needs, search needs, search needs, sym (put-zeros-none _))
 
 loop-again : tie.Need-loop-again Inv-loop μ-loop
 loop-again c =

@@ -1,3 +1,7 @@
+use mathlib.Core.Path.{refl}
+use mathlib.Core.Bool.{false}
+use Rattle.model.specs.Parameters.{operations}
+use Rattle.numbers.proofs.Tables.{table-at}
 use Rattle.model.specs.Rules.{oneOf}
 use borrow.Author.Needs.{needs}
 use Rattle.unit.proofs.parameters.is_operation.Statement.{statement}
@@ -17,7 +21,7 @@ array-read-result c = search needs
 -- src/parameters.rt:177:1
 returns : tie.Need-returns
 unfolding oneOf
-returns c = ?
+returns c = rw (c .wide .ensures .0) (table-at (oneOf operations) false 16 _ refl (c .before .args .operation) (search needs))
 
 pub is-operation-spec : {M : Type 1} → statement M
 is-operation-spec = tie.close (tie.spec wide-requires array-read-result returns)

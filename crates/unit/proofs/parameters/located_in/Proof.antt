@@ -1,3 +1,4 @@
+use lib.ListN.{getD}
 use lib.Bits.{and-mask, mask-lt}
 use Rattle.model.specs.Parameters.{locatedIn}
 use borrow.Author.Needs.{needs}
@@ -23,7 +24,7 @@ be4-requires c κs = search needs
 -- src/parameters.rt:161:1
 returns : tie.Need-returns
 unfolding locatedIn
-returns c = (rw and-mask cc, ?, search needs)
+returns c = (rw (and-mask (getD (c .before .before .before .before .args .p .now) 0 0) 4) cc, mask-lt (getD (c .before .before .before .before .args .p .now) 0 0) 4, search needs)
 
 pub located-in-spec : {M : Type 1} → statement M
 located-in-spec = tie.close (tie.spec shared-slice-read-t3 be2-requires be4-requires returns)
