@@ -1,16 +1,18 @@
 -- What the code tests, and the rule's own words for it. No contract cites this file.
 use Prim.Native.Nat.{ℕ, _/_, _%_, _<_}
-use mathlib.Core.Path.{_≡_, refl, sym, _∙_}
+use mathlib.Core.Path.{_≡_, refl, sym, ap, _∙_}
 use mathlib.Core.Bool.{Bool, true, false, not, _&&_, _||_}
-use mathlib.Core.List.{[], _∷_}
+use mathlib.Core.List.{List, [], _∷_}
 use lib.Bits.{bitAnd}
 use lib.Dec.{ltb, leb, eqb}
+use lib.ListN.{getD}
 use native.Mathlib.Omega.{arith}
 use borrow.Author.Tests.{ltb-true, ltb-false, lt-leb, le-leb, eq-eqb, ne-eqb}
 use Rattle.numbers.specs.Bits.{bit, anyBit}
+use Rattle.numbers.proofs.Tables.{values, table-at}
 use Rattle.numbers.proofs.Bits.{same-on-bytes}
 use Rattle.model.specs.Rules.{oneOf}
-use Rattle.model.specs.Parameters.{operations, writes}
+use Rattle.model.specs.Parameters.{operations, writes, forbidden}
 use Rattle.model.proofs.Steps.{one-of, none-of}
 
 -- "not below" is "at most"
@@ -57,3 +59,10 @@ count-last o n h e = rw (ne-eqb n 0 h, eq-eqb o 4 e)
 pub inhibited-last : (r o : ℕ) → (r ≡ 0 → ⊥) → (o ≡ 1 → ⊥) → (o ≡ 5 → ⊥) → eqb o 4 ≡ (not (eqb r 0) && (writes o || eqb o 4))
 unfolding oneOf
 inhibited-last r o h a b = rw (ne-eqb r 0 h, ne-eqb o 1 a, ne-eqb o 5 b)
+
+-- the table of permissions: its rows by mask bits 0-1, its columns by operation
+abbrev row : ℕ → List Bool
+row k = values (oneOf (getD forbidden k [])) 0 7
+
+pub forbidden-at : (table : List (List Bool)) → table ≡ values row 0 4 → (k o : ℕ) → k < 4 → o < 7 → getD (getD table k []) o false ≡ oneOf (getD forbidden k []) o
+forbidden-at table e k o h g = ap (λ (l : List Bool). getD l o false) (table-at row [] 4 table e k h) ∙ table-at (oneOf (getD forbidden k [])) false 7 (row k) refl o g

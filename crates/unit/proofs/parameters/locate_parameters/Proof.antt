@@ -1,3 +1,17 @@
+use Prim.Native.Nat.{ℕ}
+use mathlib.Core.Bool.{not}
+use borrow.Author.Tests.{eqb-false, not-false}
+use Rattle.model.specs.Rules.{firstOf}
+use Rattle.model.specs.Causes.{permissionCauses}
+use Rattle.model.proofs.Verdicts.{either-false}
+use Rattle.unit.specs.declared.parameters.Location.{Location}
+use Rattle.unit.proofs.Tests.{operation-low}
+use Rattle.unit.proofs.Locations.{location-lines, processed-small}
+use mathlib.Core.Path.{_≡_, refl, sym, ap, _∙_}
+use native.Mathlib.Omega.{arith}
+use Rattle.model.specs.Parameters.{modifiersIn, replicationIn, processed}
+use Rattle.model.specs.Causes.{locationCauses}
+use Rattle.model.proofs.Verdicts.{first-here, first-later}
 use borrow.Author.Needs.{needs}
 use Rattle.unit.proofs.parameters.locate_parameters.Statement.{statement}
 use Rattle.unit.proofs.parameters.locate_parameters.Tie as tie
@@ -34,7 +48,8 @@ modifier-wrong-requires c κs = search needs
 
 -- src/parameters.rt:296:9
 returns : tie.Need-returns
-returns c = search needs
+unfolding modifiersIn replicationIn
+returns c = (let t = ap firstOf (location-lines _ _ (c .before .before .before .before .before .located-in .result) (c .before .before .before .wide .result) (c .before .before .before .before .before .located-in .ensures .0) (c .before .before .before .wide .ensures .0)) in sym (t ∙ first-here _ _ (sym (c .before .modifier-wrong .ensures) ∙ c .if1 .taken)), λ z. absurd (omega arith))
 
 -- src/parameters.rt:298:9
 is-operation-requires : tie.Need-is-operation-requires
@@ -42,7 +57,8 @@ is-operation-requires c κs = search needs
 
 -- src/parameters.rt:299:9
 returns-2 : tie.Need-returns-2
-returns-2 c = search needs
+unfolding modifiersIn replicationIn
+returns-2 c = (let t = ap firstOf (location-lines _ _ (c .before .before .before .before .before .before .before .located-in .result) (c .before .before .before .before .before .wide .result) (c .before .before .before .before .before .before .before .located-in .ensures .0) (c .before .before .before .before .before .wide .ensures .0)) in sym (t ∙ first-later _ _ (sym (c .before .before .before .modifier-wrong .ensures) ∙ c .before .before .if1 .left) ∙ first-here _ _ (ap not (sym (c .before .is-operation .ensures)) ∙ c .if2 .taken)), λ z. absurd (omega arith))
 
 -- src/parameters.rt:301:8
 count-wrong-requires : tie.Need-count-wrong-requires
@@ -50,15 +66,18 @@ count-wrong-requires c κs = search needs
 
 -- src/parameters.rt:302:9
 returns-3 : tie.Need-returns-3
-returns-3 c = search needs
+unfolding modifiersIn replicationIn
+returns-3 c = (let t = ap firstOf (location-lines _ _ (c .before .before .before .before .before .before .before .before .before .located-in .result) (c .before .before .before .before .before .before .before .wide .result) (c .before .before .before .before .before .before .before .before .before .located-in .ensures .0) (c .before .before .before .before .before .before .before .wide .ensures .0)) in sym (t ∙ first-later _ _ (sym (c .before .before .before .before .before .modifier-wrong .ensures) ∙ c .before .before .before .before .if1 .left) ∙ first-later _ _ (ap not (sym (c .before .before .before .is-operation .ensures)) ∙ c .before .before .if2 .left) ∙ first-here _ _ (sym (c .before .count-wrong .ensures) ∙ c .if3 .taken)), λ z. absurd (omega arith))
 
 -- src/parameters.rt:304:8
 replication-wrong-requires : tie.Need-replication-wrong-requires
-replication-wrong-requires c κs = search needs
+unfolding modifiersIn replicationIn
+replication-wrong-requires c κs = eqb-false _ _ (either-false _ _ (sym (c .before .count-wrong .ensures) ∙ c .if3 .left) .0)
 
 -- src/parameters.rt:305:9
 returns-4 : tie.Need-returns-4
-returns-4 c = search needs
+unfolding modifiersIn replicationIn
+returns-4 c = (let t = ap firstOf (location-lines _ _ (c .before .before .before .before .before .before .before .before .before .before .before .located-in .result) (c .before .before .before .before .before .before .before .before .before .wide .result) (c .before .before .before .before .before .before .before .before .before .before .before .located-in .ensures .0) (c .before .before .before .before .before .before .before .before .before .wide .ensures .0)) in sym (t ∙ first-later _ _ (sym (c .before .before .before .before .before .before .before .modifier-wrong .ensures) ∙ c .before .before .before .before .before .before .if1 .left) ∙ first-later _ _ (ap not (sym (c .before .before .before .before .before .is-operation .ensures)) ∙ c .before .before .before .before .if2 .left) ∙ first-later _ _ (sym (c .before .before .before .count-wrong .ensures) ∙ c .before .before .if3 .left) ∙ first-here _ _ (sym (c .before .replication-wrong .ensures) ∙ c .if4 .taken)), λ z. absurd (omega arith))
 
 -- src/parameters.rt:307:9
 blocks-processed-requires : tie.Need-blocks-processed-requires
@@ -66,11 +85,13 @@ blocks-processed-requires c κs = search needs
 
 -- src/parameters.rt:308:5
 permit-requires : tie.Need-permit-requires
-permit-requires c κs = search needs
+unfolding modifiersIn replicationIn
+permit-requires c κs = (operation-low _ (sym (c .before .before .before .before .before .before .is-operation .ensures) ∙ not-false _ (c .before .before .before .before .before .if2 .left)), processed-small (c .before .before .before .before .before .before .before .before .before .before .before .before .located-in .result) (c .before .before .before .before .before .before .before .before .before .before .wide .result) _ (c .blocks-processed .ensures) (c .before .before .before .before .before .before .before .before .before .before .wide .ensures .1) (c .before .before .before .before .before .before .before .before .before .before .before .before .located-in .ensures .2))
 
 -- src/parameters.rt:288:1
 returns-5 : tie.Need-returns-5
-returns-5 c = search needs
+unfolding modifiersIn replicationIn
+returns-5 c = (let t = ap firstOf (location-lines _ _ (c .before .before .before .before .before .before .before .before .before .before .before .before .before .located-in .result) (c .before .before .before .before .before .before .before .before .before .before .before .wide .result) (c .before .before .before .before .before .before .before .before .before .before .before .before .before .located-in .ensures .0) (c .before .before .before .before .before .before .before .before .before .before .before .wide .ensures .0)) in c .permit .ensures .0 ∙ ap (λ (n : ℕ). firstOf (permissionCauses (c .before .before .before .before .before .before .before .before .before .before .before .before .before .before .before .args .s) (c .before .before .before .before .before .before .before .before .before .before .before .before .before .located-in .result) n)) (c .before .blocks-processed .ensures) ∙ sym (t ∙ first-later _ _ (sym (c .before .before .before .before .before .before .before .before .before .modifier-wrong .ensures) ∙ c .before .before .before .before .before .before .before .before .if1 .left) ∙ first-later _ _ (ap not (sym (c .before .before .before .before .before .before .before .is-operation .ensures)) ∙ c .before .before .before .before .before .before .if2 .left) ∙ first-later _ _ (sym (c .before .before .before .before .before .count-wrong .ensures) ∙ c .before .before .before .before .if3 .left) ∙ first-later _ _ (sym (c .before .before .before .replication-wrong .ensures) ∙ c .before .before .if4 .left)), λ z. c .permit .ensures .1 z ∙ ap Location.Found (c .before .before .before .before .before .before .before .before .before .before .before .before .before .located-in .ensures .0))
 
 pub locate-parameters-spec : {M : Type 1} → statement M
 locate-parameters-spec =

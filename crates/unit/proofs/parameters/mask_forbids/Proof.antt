@@ -1,3 +1,6 @@
+use Prim.Native.Nat.{_/_}
+use mathlib.Core.Path.{refl}
+use Rattle.unit.proofs.Tests.{forbidden-at}
 use Rattle.model.specs.Rules.{oneOf}
 use Rattle.model.specs.Parameters.{forbids}
 use borrow.Author.Needs.{needs}
@@ -30,7 +33,7 @@ index-2-result c = search needs
 -- src/parameters.rt:240:1
 returns : tie.Need-returns
 unfolding forbids oneOf
-returns c = ?
+returns c = rw (c .before .before .wide .ensures .0, c .before .wide2 .ensures .0) (forbidden-at _ refl (c .before .before .before .args .mask / 64) (c .before .before .before .args .operation) (search needs) (search needs))
 
 pub mask-forbids-spec : {M : Type 1} → statement M
 mask-forbids-spec =
