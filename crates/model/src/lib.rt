@@ -1,5 +1,5 @@
 // The unit's own types. What they mean stands in specs/, the unit as a definition.
-mod ccw;
-mod extent;
-mod record;
-mod state;
+pub mod ccw;
+pub mod extent;
+pub mod record;
+pub mod state;

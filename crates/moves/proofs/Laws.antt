@@ -5,10 +5,11 @@ use native.Mathlib.Nat.{zero-add, zero-min, min-zero, suc-min-suc}
 use mathlib.Core.Path.{_≡_, refl, sym, ap, _∙_}
 use mathlib.Core.Bool.{Bool, true, false}
 use mathlib.Core.List.{List, [], _∷_, _++_, append-assoc, append-nil}
+use native.Mathlib.Numerals.{add-one}
 use native.Mathlib.Omega.{arith}
 use lib.Dec.{ltb}
 use lib.ListN.{length, getD, set, take, drop, replicate, length-append, length-take, length-drop, length-replicate, take-append-drop, drop-of-length-le, List·getD-append}
-use lib.Seq.{length-take-le, take-length, drop-length, drop-drop, drop-append-le, take-add, take-at, drop-at, getD-take, getD-drop, getD-append-add}
+use lib.Seq.{length-take-le, take-length, drop-length, drop-drop, drop-append-le, take-add, take-at, drop-at, getD-take, getD-drop, getD-append-add, drop-cons}
 use borrow.Author.Fill.{fill-more}
 use borrow.Author.Tests.{ltb-true, ltb-false}
 use borrow.Rule.Slice.PartMut.{midOf, putMid, mid-len, post-is}
@@ -93,6 +94,16 @@ part-between p q r at n e f = rw (drop-at p (q ++ r) at e) (take-at q r n f)
 pub take-part : (l : List ℕ) (at n : ℕ) → take at l ++ part l at n ≡ take (at + n) l
 unfolding part
 take-part l at n = sym (take-add at n l)
+
+-- the first byte of a part, and the rest of it
+pub part-cons : (l : List ℕ) (at n : ℕ) → at < length l → part l at (suc n) ≡ getD l at 0 ∷ part l (at + 1) n
+unfolding part
+part-cons l at n h = rw (drop-cons l at 0 h, add-one)
+
+-- what stands before the bytes that were put, and the bytes
+pub take-put : (l : List ℕ) (at : ℕ) (bytes : List ℕ) (n : ℕ) → length bytes ≡ n → at + n ≤ length l → take (at + n) (put l at bytes) ≡ take at l ++ bytes
+unfolding put
+take-put l at bytes n e h = take-at (take at l ++ bytes) _ (at + n) (length-append (take at l) bytes ∙ rw (length-take-le at l (omega arith), e))
 
 -- put at the front
 

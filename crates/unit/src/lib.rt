@@ -1,1 +1,4 @@
 // How one command is done.
+pub mod log;
+pub mod record;
+pub mod sense;

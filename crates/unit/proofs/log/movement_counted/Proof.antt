@@ -1,0 +1,14 @@
+use Rattle.model.specs.Log.{withCounts, movementCounted}
+use borrow.Author.Needs.{needs}
+use Rattle.unit.proofs.log.movement_counted.Statement.{statement}
+use Rattle.unit.proofs.log.movement_counted.Tie as tie
+
+returns : tie.Need-returns
+unfolding movementCounted withCounts
+returns c = rw (c .added2 .ensures)
+
+pub movement-counted-spec : {M : Type 1} → statement M
+movement-counted-spec = tie.close
+    (tie.spec
+    (search needs)  -- added2-requires
+    returns)

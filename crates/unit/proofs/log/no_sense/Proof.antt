@@ -1,0 +1,14 @@
+use Rattle.moves.specs.Parts.{zeros}
+use borrow.Author.Needs.{needs}
+use Rattle.unit.proofs.log.no_sense.Statement.{statement}
+use Rattle.unit.proofs.log.no_sense.Tie as tie
+
+returns : tie.Need-returns
+unfolding zeros
+returns c = c .with-sense .ensures
+
+pub no-sense-spec : {M : Type 1} → statement M
+no-sense-spec = tie.close
+    (tie.spec
+    (search needs)  -- with-sense-requires
+    returns)
