@@ -1,2 +1,1 @@
-pub mod Senses
-pub mod Shown
+pub mod Stores

@@ -1,5 +1,5 @@
-// The unit record's sense and counts, and the log that shows the counts: `Log::of` is what READ AND RESET BUFFERED LOG sends.
-// Each function takes the record and gives it back changed; nothing here is refused.
+// The unit record with its sense or its counts changed, and the log that shows the counts: `Log::of` is what READ AND RESET BUFFERED LOG sends.
+// Nothing here is refused; a count that is full stays full.
 use model::record::Record;
 use moves::least;
 use moves::put_at;
@@ -28,8 +28,8 @@ pub fn no_sense(u: Record) -> Record
     with_sense(u, [0u8; 24])
 }
 
-// A count of 3 bytes with n added; it stops at the largest that it holds.
-pub fn added3(count: [u8; 3], n: usize) -> [u8; 3]
+// A count of 3 bytes with n added; it stops at the largest number that they hold.
+fn added3(count: [u8; 3], n: usize) -> [u8; 3]
     requires { ⌜ n < 4294967296 ⌝ }
     ensures { λ r. ⌜ r ≡ added3 count n ⌝ }
 {
@@ -37,7 +37,7 @@ pub fn added3(count: [u8; 3], n: usize) -> [u8; 3]
 }
 
 // A count of 2 bytes with n added, likewise.
-pub fn added2(count: [u8; 2], n: usize) -> [u8; 2]
+fn added2(count: [u8; 2], n: usize) -> [u8; 2]
     requires { ⌜ n < 4294967296 ⌝ }
     ensures { λ r. ⌜ r ≡ added2 count n ⌝ }
 {
@@ -92,6 +92,7 @@ pub fn log_reset(u: Record) -> Record
 
 pub struct Log(pub [u8; 24]);
 
+// Where each thing stands in a log.
 impl Log {
     pub const ENVIRONMENTAL: usize = 2;
 
@@ -111,8 +112,8 @@ impl Log {
         let written = u.blocks_written;
         let movements = u.movements;
         let mut log = [0u8; 24];
-        log[Log::ENVIRONMENTAL] = 0x10;
-        log[Log::FORMAT] = 0x68;
+        log[Log::ENVIRONMENTAL] = 0x10; // bit 3: environmental data present
+        log[Log::FORMAT] = 0x68; // format 6, message 8
         put_at(&mut log, Log::BLOCKS_READ, &read, 3);
         put_at(&mut log, Log::BLOCKS_WRITTEN, &written, 3);
         put_at(&mut log, Log::MOVEMENTS, &movements, 2);

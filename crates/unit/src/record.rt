@@ -1,4 +1,4 @@
-// The unit record and its 34 bytes, and the record of a new unit.
+// The unit record and its 34 bytes (`unpack`, `pack`), and the record of a new unit. Any 34 bytes are a record: nothing is refused.
 use model::record::Record;
 use moves::copy;
 use moves::put_at;
@@ -8,7 +8,7 @@ ghost use lib.ListN.{length};
 ghost use Rattle.moves.specs.Parts.{part};
 ghost use Rattle.model.specs.Lent.{recordBytes, recordOf, newRecord};
 
-// Where each field stands; sense is first.
+// Where each field stands in the bytes; sense is first.
 const BLOCKS_READ: usize = 24;
 
 const BLOCKS_WRITTEN: usize = 27;
@@ -20,7 +20,7 @@ const READY: usize = 32;
 const READ_ONLY: usize = 33;
 
 // The 2 bytes from `at` on.
-pub fn two(s: &[u8], at: usize) -> [u8; 2]
+fn two(s: &[u8], at: usize) -> [u8; 2]
     requires { ⌜ at + 2 ≤ length (now s) ⌝ }
     ensures { λ r. ⌜ r ≡ part (now (s .entry)) at 2 ⌝ }
 {
@@ -28,7 +28,7 @@ pub fn two(s: &[u8], at: usize) -> [u8; 2]
 }
 
 // The 3 bytes from `at` on.
-pub fn three(s: &[u8], at: usize) -> [u8; 3]
+fn three(s: &[u8], at: usize) -> [u8; 3]
     requires { ⌜ at + 3 ≤ length (now s) ⌝ }
     ensures { λ r. ⌜ r ≡ part (now (s .entry)) at 3 ⌝ }
 {

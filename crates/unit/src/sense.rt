@@ -1,4 +1,4 @@
-// The sense bytes of a refusal: one table, indexed by cause. `sense_of` is the way in. docs/SENSE.md says why each row is what it is.
+// The sense of a refusal, from one table indexed by cause; `sense_of` is the way in. docs/SENSE.md says why each row is what it is.
 use moves::put_at;
 ghost use mathlib.Core.Path.{_≡_};
 ghost use Prim.Native.Nat.{_<_};
@@ -7,6 +7,7 @@ ghost use Rattle.model.specs.Sense.{senseTable, rowIn, senseOf};
 // Sense bytes 0, 1 and 7.
 pub struct SenseRow(pub u8, pub u8, pub u8);
 
+// Where the third byte stands in sense, and where the parameters of a LOCATE do.
 impl SenseRow {
     pub const FORMAT: usize = 7;
 
@@ -33,6 +34,7 @@ const OPERATION_INCOMPLETE: SenseRow = SenseRow(0x80, 0x01, 0x0C);
 
 const NOT_ON_LINE: SenseRow = SenseRow(0x40, 0x00, 0x10);
 
+// The row of each cause. Those that are not unit checks have no sense.
 const SENSE: [SenseRow; 45] = [
     NO_SENSE, // 0
     NO_SENSE, // 1
@@ -81,7 +83,7 @@ const SENSE: [SenseRow; 45] = [
     NOT_ON_LINE, // 44
 ];
 
-// The row of a cause; all zeros where it is not a unit check.
+// The table is held against the definition here, once.
 fn row_of(cause: u8) -> SenseRow
     requires { ⌜ cause < 45 ⌝ }
     ensures { λ r. ⌜ r ≡ (let d = rowIn senseTable cause in record { 0 = d .byte0; 1 = d .byte1; 2 = d .byte7 }) ⌝ }

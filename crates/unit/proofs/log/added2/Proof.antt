@@ -1,5 +1,7 @@
-use Rattle.model.specs.Log.{added2}
+-- `unit::log::added2` meets its contract, by those of the three functions that it calls, one inside the other.
+-- Assumes nothing.
 use borrow.Author.Needs.{needs}
+use Rattle.model.specs.Log.{added2}
 use Rattle.unit.proofs.log.added2.Statement.{statement}
 use Rattle.unit.proofs.log.added2.Tie as tie
 

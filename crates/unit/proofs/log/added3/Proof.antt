@@ -1,5 +1,7 @@
-use Rattle.model.specs.Log.{added3}
+-- `unit::log::added3` meets its contract, by those of the three functions that it calls, one inside the other.
+-- Assumes nothing.
 use borrow.Author.Needs.{needs}
+use Rattle.model.specs.Log.{added3}
 use Rattle.unit.proofs.log.added3.Statement.{statement}
 use Rattle.unit.proofs.log.added3.Tie as tie
 

@@ -1,3 +1,5 @@
+-- `unit::log::log_reset` meets its contract: the definition changes the same three fields.
+-- Assumes nothing.
 use mathlib.Core.Path.{refl}
 use Rattle.moves.specs.Parts.{zeros}
 use Rattle.model.specs.Log.{withCounts, logReset}

@@ -1,5 +1,7 @@
-use Rattle.model.specs.Log.{withCounts, movementCounted}
+-- `unit::log::movement_counted` meets its contract: the field that changes is the sum that stops.
+-- Assumes nothing.
 use borrow.Author.Needs.{needs}
+use Rattle.model.specs.Log.{withCounts, movementCounted}
 use Rattle.unit.proofs.log.movement_counted.Statement.{statement}
 use Rattle.unit.proofs.log.movement_counted.Tie as tie
 

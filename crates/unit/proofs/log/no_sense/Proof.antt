@@ -1,5 +1,7 @@
-use Rattle.moves.specs.Parts.{zeros}
+-- `unit::log::no_sense` meets its contract: `zeros 24` is the array of 24 zeros.
+-- Assumes nothing.
 use borrow.Author.Needs.{needs}
+use Rattle.moves.specs.Parts.{zeros}
 use Rattle.unit.proofs.log.no_sense.Statement.{statement}
 use Rattle.unit.proofs.log.no_sense.Tie as tie
 

@@ -1,5 +1,7 @@
-use Rattle.model.specs.Log.{withCounts, readCounted}
+-- `unit::log::read_counted` meets its contract: the field that changes is the sum that stops.
+-- Assumes nothing.
 use borrow.Author.Needs.{needs}
+use Rattle.model.specs.Log.{withCounts, readCounted}
 use Rattle.unit.proofs.log.read_counted.Statement.{statement}
 use Rattle.unit.proofs.log.read_counted.Tie as tie
 

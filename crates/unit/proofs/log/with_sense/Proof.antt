@@ -1,3 +1,5 @@
+-- `unit::log::with_sense` meets its contract: the definition changes the same field.
+-- Assumes nothing.
 use mathlib.Core.Path.{refl}
 use Rattle.model.specs.Log.{withSense}
 use Rattle.unit.proofs.log.with_sense.Statement.{statement}

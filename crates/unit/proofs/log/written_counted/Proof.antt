@@ -1,5 +1,7 @@
-use Rattle.model.specs.Log.{withCounts, writtenCounted}
+-- `unit::log::written_counted` meets its contract: the field that changes is the sum that stops.
+-- Assumes nothing.
 use borrow.Author.Needs.{needs}
+use Rattle.model.specs.Log.{withCounts, writtenCounted}
 use Rattle.unit.proofs.log.written_counted.Statement.{statement}
 use Rattle.unit.proofs.log.written_counted.Tie as tie
 

@@ -1,3 +1,5 @@
+-- `unit::record::new_record` meets its contract: the definition makes the same record.
+-- Assumes nothing.
 use mathlib.Core.Path.{refl}
 use Rattle.moves.specs.Parts.{zeros}
 use Rattle.model.specs.Lent.{newRecord}

@@ -3,7 +3,7 @@
 use borrow.Author.Needs.{needs}
 use native.Mathlib.Omega.{arith}
 use lib.ListN.{length-set}
-use Rattle.unit.proofs.Shown.{Arrays, record-stored}
+use Rattle.unit.proofs.Stores.{Arrays, record-stored}
 use Rattle.unit.proofs.record.pack.Statement.{statement}
 use Rattle.unit.proofs.record.pack.Tie as tie
 

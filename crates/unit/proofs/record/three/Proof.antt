@@ -1,9 +1,11 @@
-use mathlib.Core.Path.{_≡_}
+-- `unit::record::three` meets its contract: the part is its first byte and the rest, three times.
+-- Assumes nothing.
+use borrow.Author.Needs.{needs}
 use Prim.Native.Nat.{_+_}
+use mathlib.Core.Path.{_≡_}
 use native.Mathlib.Omega.{arith}
 use Rattle.moves.proofs.Laws.{part-cons}
 use Rattle.moves.specs.Parts.{part}
-use borrow.Author.Needs.{needs}
 use Rattle.unit.proofs.record.three.Statement.{statement}
 use Rattle.unit.proofs.record.three.Tie as tie
 

@@ -1,8 +1,10 @@
-use Rattle.moves.specs.Parts.{part}
+-- `unit::record::two` meets its contract: the part is its first byte and the rest, twice.
+-- Assumes nothing.
+use borrow.Author.Needs.{needs}
 use Prim.Native.Nat.{_+_}
 use native.Mathlib.Omega.{arith}
+use Rattle.moves.specs.Parts.{part}
 use Rattle.moves.proofs.Laws.{part-cons}
-use borrow.Author.Needs.{needs}
 use Rattle.unit.proofs.record.two.Statement.{statement}
 use Rattle.unit.proofs.record.two.Tie as tie
 

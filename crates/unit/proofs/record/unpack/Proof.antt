@@ -1,20 +1,24 @@
+-- `unit::record::unpack` meets its contract: each field is the part of the bytes that the definition names.
+-- Assumes nothing.
+use borrow.Author.Needs.{needs}
+use mathlib.Core.Path.{_≡_, _∙_}
 use native.Mathlib.Omega.{arith}
 use lib.Seq.{length-take-le}
 use lib.ListN.{take}
-use mathlib.Core.Path.{_≡_, _∙_}
 use Rattle.moves.proofs.Laws.{put-all}
 use Rattle.moves.specs.Parts.{part}
 use Rattle.model.specs.Lent.{recordOf}
-use borrow.Author.Needs.{needs}
 use Rattle.unit.proofs.record.unpack.Statement.{statement}
 use Rattle.unit.proofs.record.unpack.Tie as tie
 
 returns : tie.Need-returns
 unfolding recordOf part
 returns c =
-    let s = c .before .before .before .before .before .before .before .before .before .args .s .now in
-    let sense : c .before .before .before .before .before .before .copy .last .1 .0 ≡ take 24 s = c .before .before .before .before .before .before .copy .ensures ∙ put-all _ _ (length-take-le 24 s (omega arith)) in
-    rw (sense, c .before .before .before .before .three .ensures, c .before .before .before .three2 .ensures, c .before .before .two .ensures)
+    let counts = c .before .before in
+    let copied = counts .before .before .before .before in
+    let l = copied .before .before .before .args .s .now in
+    let sense : copied .copy .last .1 .0 ≡ take 24 l = copied .copy .ensures ∙ put-all _ _ (length-take-le 24 l (omega arith)) in
+    rw (sense, counts .before .before .three .ensures, counts .before .three2 .ensures, counts .two .ensures)
 
 pub unpack-spec : {M : Type 1} → statement M
 unpack-spec =

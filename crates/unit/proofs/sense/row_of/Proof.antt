@@ -5,7 +5,7 @@ use mathlib.Core.Path.{refl}
 use Rattle.numbers.proofs.Tables.{table-at}
 use Rattle.model.specs.Rules.{pick}
 use Rattle.model.specs.Sense.{rowIn}
-use Rattle.unit.proofs.Senses.{rowOf}
+use Rattle.unit.proofs.Stores.{rowOf}
 use Rattle.unit.proofs.sense.row_of.Statement.{statement}
 use Rattle.unit.proofs.sense.row_of.Tie as tie
 

@@ -1,8 +1,10 @@
+-- `unit::sense::sense_of` meets its contract: the row's bytes over zeros, and for 39 the parameters over those.
+-- Assumes nothing.
 use borrow.Author.Needs.{needs}
 use borrow.Author.Tests.{eq-eqb, ne-eqb}
 use mathlib.Core.Path.{_≡_, _∙_}
 use lib.ListN.{length}
-use Rattle.unit.proofs.Senses.{sense-plain, sense-shown}
+use Rattle.unit.proofs.Stores.{sense-plain, sense-shown}
 use Rattle.unit.proofs.sense.sense_of.Statement.{statement}
 use Rattle.unit.proofs.sense.sense_of.Tie as tie
 

@@ -2,7 +2,7 @@
 -- Assumes nothing.
 use borrow.Author.Needs.{needs}
 use native.Mathlib.Omega.{arith}
-use Rattle.unit.proofs.Shown.{Arrays, log-stored}
+use Rattle.unit.proofs.Stores.{Arrays, log-stored}
 use Rattle.unit.proofs.log.Log.of.Statement.{statement}
 use Rattle.unit.proofs.log.Log.of.Tie as tie
 
