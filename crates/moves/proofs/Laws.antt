@@ -5,10 +5,11 @@ use native.Mathlib.Nat.{zero-add, add-zero, suc-add, add-assoc, zero-min, min-ze
 use mathlib.Core.Path.{_≡_, refl, sym, ap, _∙_}
 use mathlib.Core.Bool.{Bool, true, false}
 use mathlib.Core.List.{List, [], _∷_, _++_, append-assoc, append-nil}
+use native.Mathlib.Numerals.{add-one}
 use native.Mathlib.Omega.{arith}
 use lib.Dec.{ltb}
 use lib.ListN.{length, getD, set, take, drop, replicate, length-append, length-take, length-drop, length-replicate, take-append-drop, drop-of-length-le, List·getD-append}
-use lib.Seq.{length-take-le, take-length, take-all, drop-nil, drop-length, drop-drop, drop-append-le, take-add, take-at, drop-at, getD-take, getD-drop, getD-append-add}
+use lib.Seq.{length-take-le, take-length, take-all, drop-nil, drop-length, drop-drop, drop-cons, drop-append-le, take-add, take-at, drop-at, getD-take, getD-drop, getD-append-add}
 use borrow.Author.Fill.{fill-more}
 use borrow.Author.Tests.{ltb-true, ltb-false}
 use borrow.Rule.Slice.PartMut.{midOf, putMid, mid-len, post-is}
@@ -143,6 +144,16 @@ pub pad-more : (m n : ℕ) (bytes : List ℕ) → pad (m + n) bytes ≡ pad m by
 pad-more zero n bytes = rw (zero-add, pad-zero)
 pad-more (suc m) n [] = simp (suc-add, pad-nil, pad-more m n [], drop-nil)
 pad-more (suc m) n (b ∷ bytes) = simp (suc-add, pad-cons, pad-more m n bytes)
+
+-- the first byte of a part, and the rest of it
+pub part-cons : (l : List ℕ) (at n : ℕ) → at < length l → part l at (suc n) ≡ getD l at 0 ∷ part l (at + 1) n
+unfolding part
+part-cons l at n h = rw (drop-cons l at 0 h, add-one)
+
+-- what stands before the bytes that were put, and the bytes
+pub take-put : (l : List ℕ) (at : ℕ) (bytes : List ℕ) (n : ℕ) → length bytes ≡ n → at + n ≤ length l → take (at + n) (put l at bytes) ≡ take at l ++ bytes
+unfolding put
+take-put l at bytes n e h = take-at (take at l ++ bytes) _ (at + n) (length-append (take at l) bytes ∙ rw (length-take-le at l (omega arith), e))
 
 -- put at the front
 

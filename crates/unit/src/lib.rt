@@ -1,3 +1,6 @@
 // How one command is done.
+pub mod sense;
+pub mod log;
+pub mod record;
 pub mod parameters;
 pub mod transfer;

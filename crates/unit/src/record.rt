@@ -1,0 +1,84 @@
+// The unit record and its 34 bytes (`unpack`, `pack`), and the record of a new unit. Any 34 bytes are a record: nothing is refused.
+use model::record::Record;
+use moves::copy;
+use moves::put_at;
+ghost use mathlib.Core.Path.{_≡_};
+ghost use Prim.Native.Nat.{_+_, _≤_};
+ghost use lib.ListN.{length};
+ghost use Rattle.moves.specs.Parts.{part};
+ghost use Rattle.model.specs.Lent.{recordBytes, recordOf, newRecord};
+
+// Where each field stands in the bytes; sense is first.
+const BLOCKS_READ: usize = 24;
+
+const BLOCKS_WRITTEN: usize = 27;
+
+const MOVEMENTS: usize = 30;
+
+const READY: usize = 32;
+
+const READ_ONLY: usize = 33;
+
+// The 2 bytes from `at` on.
+fn two(s: &[u8], at: usize) -> [u8; 2]
+    requires { ⌜ at + 2 ≤ length (now s) ⌝ }
+    ensures { λ r. ⌜ r ≡ part (now (s .entry)) at 2 ⌝ }
+{
+    [s[at], s[at + 1]]
+}
+
+// The 3 bytes from `at` on.
+fn three(s: &[u8], at: usize) -> [u8; 3]
+    requires { ⌜ at + 3 ≤ length (now s) ⌝ }
+    ensures { λ r. ⌜ r ≡ part (now (s .entry)) at 3 ⌝ }
+{
+    [s[at], s[at + 1], s[at + 2]]
+}
+
+// The record that 34 bytes hold.
+pub fn unpack(s: &[u8]) -> Record
+    requires { ⌜ length (now s) ≡ 34 ⌝ }
+    ensures { λ r. ⌜ r ≡ recordOf (now (s .entry)) ⌝ }
+{
+    let mut sense = [0u8; 24];
+    copy(s, &mut sense, 24);
+    Record {
+        sense: sense,
+        blocks_read: three(s, BLOCKS_READ),
+        blocks_written: three(s, BLOCKS_WRITTEN),
+        movements: two(s, MOVEMENTS),
+        ready: s[READY],
+        read_only: s[READ_ONLY],
+    }
+}
+
+// The record goes to the 34 bytes of `to`.
+pub fn pack(u: Record, to: &mut [u8])
+    requires { ⌜ length (now to) ≡ 34 ⌝ }
+    ensures { λ _. ⌜ now (to .exit) ≡ recordBytes u ⌝ }
+{
+    let sense = u.sense;
+    let read = u.blocks_read;
+    let written = u.blocks_written;
+    let movements = u.movements;
+    put_at(to, 0, &sense, 24);
+    put_at(to, BLOCKS_READ, &read, 3);
+    put_at(to, BLOCKS_WRITTEN, &written, 3);
+    put_at(to, MOVEMENTS, &movements, 2);
+    to[READY] = u.ready;
+    to[READ_ONLY] = u.read_only;
+}
+
+// The record of a new unit: no sense, and nothing counted.
+pub fn new_record(ready: u8, read_only: u8) -> Record
+    ensures { λ r. ⌜ r ≡ newRecord ready «read_only» ⌝ }
+{
+    Record {
+        sense: [0u8; 24],
+        blocks_read: [0u8; 3],
+        blocks_written: [0u8; 3],
+        movements: [0u8; 2],
+        ready: ready,
+        read_only: read_only,
+    }
+}
