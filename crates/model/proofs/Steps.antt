@@ -20,9 +20,9 @@ use Rattle.model.specs.Rules.{_=?_, pick, oneOf, Rule, firstOf}
 use Rattle.model.specs.Lent.{fetched, blockCount}
 use Rattle.model.specs.Parameters.{extentLength, locateLength, reads, writes}
 use Rattle.model.specs.Causes.{channelCauses, commands, unitCauses, extentCauses, defineExtentCauses, permissionCauses, locationCauses, locateCauses, readIplCauses, transferCauses, ownCauses, causesOf, verdict}
-use Rattle.model.specs.Commands.{Out, noOperation, defineExtent, locate, read, write, readIpl, sense, senseType, readLog, accepted, refused, seen, step}
+use Rattle.model.specs.Commands.{Out, noOperation, defineExtent, locate, read, write, readIpl, sense, senseType, readLog, accepted, refused, seen, decided, step}
 use Rattle.model.proofs.Picks.{pick-ind, pick-true, pick-false}
-use Rattle.model.proofs.Verdicts.{Failed, absent, failed-upto, failed-all, both-false}
+use Rattle.model.proofs.Verdicts.{Failed, absent, first-append, failed-upto, failed-all, both-false}
 
 -- what the channel's tests leave known of a command, and the unit's
 pub record Admitted (c : Ccw) (main : List ℕ) : Type 0 where
@@ -45,12 +45,20 @@ none-of n e = false≢true e
 
 module _ (size : ℕ) (c : Ccw) (s : State) (main store : List ℕ) where
   pub step-accepted : verdict size c s main store ≡ 0 → step size c s main store ≡ accepted size c (seen c s) main store
-  unfolding step
+  unfolding step decided
   step-accepted e = pick-true _ _ _ (eq-eqb _ _ e)
 
   pub step-refused : (verdict size c s main store ≡ 0 → ⊥) → step size c s main store ≡ refused c s main store (verdict size c s main store)
-  unfolding step
+  unfolding step decided
   step-refused n = pick-false _ _ _ (ne-eqb _ _ n)
+
+  -- the channel or the unit itself refuses the command
+  pub step-early : (w : ℕ) → firstOf (channelCauses c main ++ unitCauses c s) ≡ w → (w ≡ 0 → ⊥) → step size c s main store ≡ refused c s main store w
+  unfolding verdict causesOf channelCauses unitCauses
+  step-early w e n =
+      let v : verdict size c s main store ≡ w =
+          first-append (channelCauses c main ++ unitCauses c s) (ownCauses size c s main store) refl ∙ rw e (pick-false _ _ _ (ne-eqb _ _ n)) in
+      rw v at (step-refused (λ z. n (sym v ∙ z)))
 
   pub past-channel : (w : ℕ) → absent w (channelCauses c main ++ unitCauses c s) ≡ true → verdict size c s main store ≡ w → Admitted c main × (firstOf (ownCauses size c s main store) ≡ w)
   unfolding verdict causesOf channelCauses unitCauses
@@ -67,25 +75,40 @@ module _ (size : ℕ) (c : Ccw) (s : State) (main store : List ℕ) where
         f .1,
       )
 
-  own-define : c .command ≡ DEFINE-EXTENT → ownCauses size c s main store ≡ defineExtentCauses size (blockCount size store) c s (fetched c main extentLength)
+  pub own-define : c .command ≡ DEFINE-EXTENT → ownCauses size c s main store ≡ defineExtentCauses size (blockCount size store) c s (fetched c main extentLength)
   unfolding ownCauses pick
   own-define e = rw e
 
-  own-locate : c .command ≡ LOCATE → ownCauses size c s main store ≡ locateCauses c s (fetched c main locateLength)
+  pub own-locate : c .command ≡ LOCATE → ownCauses size c s main store ≡ locateCauses c s (fetched c main locateLength)
   unfolding ownCauses pick
   own-locate e = rw e
 
-  own-read-ipl : c .command ≡ READ-IPL → ownCauses size c s main store ≡ readIplCauses s
+  pub own-read-ipl : c .command ≡ READ-IPL → ownCauses size c s main store ≡ readIplCauses s
   unfolding ownCauses pick
   own-read-ipl e = rw e
 
-  own-read : c .command ≡ READ → ownCauses size c s main store ≡ transferCauses reads s
+  pub own-read : c .command ≡ READ → ownCauses size c s main store ≡ transferCauses reads s
   unfolding ownCauses pick
   own-read e = rw e
 
-  own-write : c .command ≡ WRITE → ownCauses size c s main store ≡ transferCauses writes s
+  pub own-write : c .command ≡ WRITE → ownCauses size c s main store ≡ transferCauses writes s
   unfolding ownCauses pick
   own-write e = rw e
+
+  pub own-none : oneOf (NO-OPERATION ∷ SENSE ∷ SENSE-TYPE ∷ READ-LOG ∷ []) (c .command) ≡ true → ownCauses size c s main store ≡ []
+  unfolding ownCauses pick
+  own-none e =
+      let P : Type 0 = ownCauses size c s main store ≡ [] in
+      one-of P _ _ _ e (λ x. rw x refl) (λ e. one-of P _ _ _ e (λ x. rw x refl) (λ e. one-of P _ _ _ e (λ x. rw x refl) (λ e. one-of P _ _ _ e (λ x. rw x refl) (λ e. absurd (none-of _ e)))))
+
+  -- neither the channel nor the unit itself refuses the command: its own table decides
+  pub step-own : firstOf (channelCauses c main ++ unitCauses c s) ≡ 0
+      → step size c s main store ≡ decided c s main store (firstOf (ownCauses size c s main store)) (accepted size c (seen c s) main store)
+  unfolding step verdict causesOf channelCauses unitCauses
+  step-own e =
+      let v : verdict size c s main store ≡ firstOf (ownCauses size c s main store) =
+          first-append (channelCauses c main ++ unitCauses c s) (ownCauses size c s main store) refl ∙ rw e (pick-true _ _ _ refl) in
+      ap (λ (w : ℕ). decided c s main store w (accepted size c (seen c s) main store)) v
 
   -- what holds of each command's own table, and of an empty one, holds of the one that the command has
   pub own-cases : (P : List Rule → Type 0)
@@ -177,6 +200,6 @@ accepted-cases size c s main store P k e =
     one-of Q _ _ _ l (λ x. rw (accepted-read-log size c t main store x) (k .read-log a x)) (λ l. absurd (none-of _ l))))))))))
 
 pub step-cases : (size : ℕ) (c : Ccw) (s : State) (main store : List ℕ) (P : Out → Type 0) → Cases size c s main store P → P (step size c s main store)
-unfolding step
+unfolding step decided
 step-cases size c s main store P k =
     pick-ind P _ _ _ (λ b. accepted-cases size c s main store P k (eqb-true _ _ b)) (λ b. k .refusal _ (eqb-false _ _ b) refl)

@@ -3,6 +3,7 @@
 --     absent        a table has no line for this cause: a test that antt computes
 --     first-here, first-later, first-none
 --                   a table read line by line: the verdict is here, or in the rest, or there is none
+--     first-append  the verdict of one table after another
 --     failed-upto   a verdict that the front of a table does not give: no rule there holds, and the rest gives it
 --     none-given    where no rule holds the verdict is 0
 --     never-given   a cause that no line of a table has is not its verdict
@@ -68,6 +69,19 @@ failed-upto w (r ∷ rs) qs a e =
 
 pub failed-all : (w : ℕ) (rs : List Rule) → absent w rs ≡ true → firstOf rs ≡ w → Failed rs
 failed-all w rs a e = failed-upto w rs [] a (rw append-nil e) .0
+
+-- the verdict of one table after another
+pub first-append : (rs qs : List Rule) → absent 0 rs ≡ true → firstOf (rs ++ qs) ≡ pick (firstOf rs =? 0) (firstOf qs) (firstOf rs)
+unfolding firstOf pick
+first-append [] qs a = refl
+first-append (r ∷ rs) qs a =
+    let p = both-true _ _ a in
+    go (r .holds) (first-append rs qs (p .1)) (not-true _ (p .0))
+  where
+    go : (b : Bool) → firstOf (rs ++ qs) ≡ pick (firstOf rs =? 0) (firstOf qs) (firstOf rs) → r .cause =? 0 ≡ false
+        → pick b (r .cause) (firstOf (rs ++ qs)) ≡ pick (pick b (r .cause) (firstOf rs) =? 0) (firstOf qs) (pick b (r .cause) (firstOf rs))
+    go true e z = rw z
+    go false e z = e
 
 pub none-given : (rs : List Rule) → Failed rs → firstOf rs ≡ 0
 unfolding firstOf pick

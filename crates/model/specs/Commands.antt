@@ -144,7 +144,9 @@ refused c s main store cause = out (refusal s cause (fetched c main locateLength
 unfoldable pub seen : Ccw → State → State
 seen c s = after s (pick (oneOf (NO-OPERATION ∷ SENSE ∷ []) (c .command)) (s .unit) (withSense (s .unit) (zeros 24))) (s .before)
 
+-- accepted where no cause was given, refused by the cause where one was
+unfoldable pub decided : Ccw → State → List ℕ → List ℕ → ℕ → Out → Out
+decided c s main store cause done = pick (cause =? 0) done (refused c s main store cause)
+
 unfoldable pub step : ℕ → Ccw → State → List ℕ → List ℕ → Out
-step size c s main store =
-    let cause = verdict size c s main store in
-    pick (cause =? 0) (accepted size c (seen c s) main store) (refused c s main store cause)
+step size c s main store = decided c s main store (verdict size c s main store) (accepted size c (seen c s) main store)
