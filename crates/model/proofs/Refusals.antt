@@ -11,10 +11,12 @@ use mathlib.Core.List.{List}
 use borrow.Author.Tests.{eqb-true, ne-eqb}
 use Rattle.model.specs.declared.ccw.Ccw.{Ccw}
 use Rattle.model.specs.declared.record.Record.{Record}
+use Rattle.model.specs.declared.state.Before.the-variants.{Other}
 use Rattle.model.specs.declared.state.State.{State}
 use Rattle.model.specs.Rules.{_=?_, pick, firstOf}
 use Rattle.model.specs.Lent.{fetched}
 use Rattle.model.specs.Causes.{callCauses, hostCauses, programCheck, verdict}
+use Rattle.model.specs.Sense.{senseOf}
 use Rattle.model.specs.Log.{withSense}
 use Rattle.model.specs.Commands.{Out, after, refused, refusal, step, sent, noOperation, defineExtent, locate, read, write, readIpl, sense, senseType, readLog}
 use Rattle.model.specs.Chain.{Called, callOf, start, system, run}
@@ -53,6 +55,21 @@ pub record Untouched (s : State) (main store : List ℕ) (o : Out) : Type 0 wher
   pub nothing-moved : (o .done .moved ≡ 0) × (o .done .blocks ≡ 0)
   pub unit-check : SameButSense (s .unit) (o .done .state .unit)
   pub program-check : programCheck (o .done .cause) ≡ true → o .done .state .unit ≡ s .unit
+
+-- a refusal by the channel, a refusal by the unit, and that the parameters show in cause 39 alone
+
+pub refusal-program : (s : State) (w : ℕ) (p : List ℕ) → programCheck w ≡ true → refusal s w p ≡ record { state = after s (s .unit) Other; cause = w; moved = 0; can = 0; blocks = 0 }
+unfolding refusal pick
+refusal-program s w p e = rw e
+
+pub refusal-unit : (s : State) (w : ℕ) (p : List ℕ) → programCheck w ≡ false
+    → refusal s w p ≡ record { state = after s (withSense (s .unit) (senseOf w p)) Other; cause = w; moved = 0; can = 0; blocks = 0 }
+unfolding refusal pick
+refusal-unit s w p e = rw e
+
+pub refusal-any : (s : State) (w : ℕ) (p q : List ℕ) → (w ≡ 39 → ⊥) → refusal s w p ≡ refusal s w q
+unfolding refusal senseOf pick
+refusal-any s w p q n = rw (ne-eqb w 39 n)
 
 refused-untouched : (c : Ccw) (s : State) (main store : List ℕ) (w : ℕ) → Untouched s main store (refused c s main store w)
 unfolding refused refusal after withSense

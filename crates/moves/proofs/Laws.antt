@@ -282,3 +282,9 @@ bytes-put l at bytes p q = bytes-append _ _ (bytes-append _ _ (bytes-take at l p
 pub bytes-pad : (n : ℕ) (bytes : List ℕ) → AreBytes bytes → AreBytes (pad n bytes)
 unfolding pad
 bytes-pad n bytes p = bytes-append _ _ (bytes-take n bytes p) (bytes-zeros (n - length bytes))
+
+-- a whole list copied over another
+pub put-copy : (n : ℕ) (l bytes : List ℕ) → length l ≡ n → length bytes ≡ n → put l 0 (take n bytes) ≡ bytes
+put-copy n l bytes e f =
+    let whole : take n bytes ≡ bytes = take-all n bytes (omega (arith, f)) in
+    rw whole (put-all l bytes (f ∙ sym e))

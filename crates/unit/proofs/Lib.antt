@@ -1,3 +1,4 @@
 pub mod Stores
 pub mod Tests
 pub mod Locations
+pub mod Deciding

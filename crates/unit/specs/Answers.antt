@@ -9,7 +9,7 @@ use Rattle.unit.specs.declared.parameters.Location.{Location}
 use Rattle.unit.specs.declared.parameters.Location.the-variants.{Found, BadModifier, BadOperation, BadCount, BadReplication, OutsideExtent, Forbidden, ReadOnly, NoAlternate}
 
 abbrev pub definedNumber : Defined → ℕ
-definedNumber (Taken e) = 0
+definedNumber Taken = 0
 definedNumber BadMask = 22
 definedNumber Maintenance = 23
 definedNumber BadSize = 24
@@ -17,7 +17,7 @@ definedNumber FirstAfterLast = 25
 definedNumber PastDevice = 26
 
 abbrev pub locationNumber : Location → ℕ
-locationNumber (Found l) = 0
+locationNumber Found = 0
 locationNumber BadModifier = 32
 locationNumber BadOperation = 33
 locationNumber BadCount = 34

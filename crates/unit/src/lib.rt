@@ -4,3 +4,5 @@ pub mod log;
 pub mod record;
 pub mod parameters;
 pub mod transfer;
+pub mod refusal;
+pub mod controls;

@@ -18,7 +18,7 @@ use model::state::State;
 // ---- DEFINE EXTENT
 
 pub enum Defined {
-    Taken(Extent),
+    Taken,
     BadMask,
     Maintenance,
     BadSize,
@@ -31,7 +31,7 @@ impl Defined {
         ensures { λ r. ⌜ r ≡ definedNumber self ⌝ }
     {
         match self {
-            Defined::Taken(_) => 0,
+            Defined::Taken => 0,
             Defined::BadMask => 22,
             Defined::Maintenance => 23,
             Defined::BadSize => 24,
@@ -72,7 +72,7 @@ fn size_wrong(field: usize, size: usize) -> bool
     field != size
 }
 
-fn extent_in(p: &[u8]) -> Extent
+pub fn extent_in(p: &[u8]) -> Extent
     requires { ⌜ length (now p) ≡ 16 ⌝ }
     ensures { λ r. ⌜ r ≡ extentIn (now (p .entry)) ⌝ }
 {
@@ -97,8 +97,7 @@ fn past_device(e: Extent, blocks: usize) -> bool
 // The sixteen bytes, on a device of so many blocks of this size.
 pub fn define_parameters(size: usize, blocks: usize, p: &[u8]) -> Defined
     requires { ⌜ length (now p) ≡ 16 ⌝ }
-    ensures number { λ r. ⌜ definedNumber r ≡ firstOf (extentCauses size blocks (now (p .entry))) ⌝ }
-    ensures taken { λ r. ⌜ (definedNumber r ≡ 0 → r ≡ Defined.Taken (extentIn (now (p .entry)))) ⌝ }
+    ensures { λ r. ⌜ definedNumber r ≡ firstOf (extentCauses size blocks (now (p .entry))) ⌝ }
 {
     let e = extent_in(p);
     if mask_wrong(e.mask, p[1]) {
@@ -116,13 +115,13 @@ pub fn define_parameters(size: usize, blocks: usize, p: &[u8]) -> Defined
     if past_device(e, blocks) {
         return Defined::PastDevice;
     }
-    Defined::Taken(e)
+    Defined::Taken
 }
 
 // ---- LOCATE
 
 pub enum Location {
-    Found(Located),
+    Found,
     BadModifier,
     BadOperation,
     BadCount,
@@ -138,7 +137,7 @@ impl Location {
         ensures { λ r. ⌜ r ≡ locationNumber self ⌝ }
     {
         match self {
-            Location::Found(_) => 0,
+            Location::Found => 0,
             Location::BadModifier => 32,
             Location::BadOperation => 33,
             Location::BadCount => 34,
@@ -158,7 +157,7 @@ fn modifier_wrong(byte: u8) -> bool
     byte & 0xE0 != 0
 }
 
-fn located_in(p: &[u8]) -> Located
+pub fn located_in(p: &[u8]) -> Located
     requires { ⌜ length (now p) ≡ 8 ⌝ }
     ensures { λ r. ⌜ (r ≡ locatedIn (now (p .entry))) × (r .operation < 16) × (r .blocks < 65536) ⌝ }
 {
@@ -265,8 +264,7 @@ fn write_inhibited(read_only: u8, operation: u8) -> bool
 // What is asked for is within the extent, and the mask, the switch and the alternates allow it.
 fn permit(s: State, l: Located, n: usize) -> Location
     requires { ⌜ (l .operation < 7) × (n < 65536) ⌝ }
-    ensures number { λ r. ⌜ locationNumber r ≡ firstOf (permissionCauses s l n) ⌝ }
-    ensures found { λ r. ⌜ (locationNumber r ≡ 0 → r ≡ Location.Found l) ⌝ }
+    ensures { λ r. ⌜ locationNumber r ≡ firstOf (permissionCauses s l n) ⌝ }
 {
     let e = s.extent;
     if outside_extent(e, l.displacement, n) {
@@ -281,14 +279,13 @@ fn permit(s: State, l: Located, n: usize) -> Location
     if l.operation == 4 {
         return Location::NoAlternate;
     }
-    Location::Found(l)
+    Location::Found
 }
 
 // The eight bytes, under the extent and on the unit of this state.
 pub fn locate_parameters(s: State, p: &[u8]) -> Location
     requires { ⌜ length (now p) ≡ 8 ⌝ }
-    ensures number { λ r. ⌜ locationNumber r ≡ firstOf (locationCauses s (now (p .entry))) ⌝ }
-    ensures found { λ r. ⌜ (locationNumber r ≡ 0 → r ≡ Location.Found (locatedIn (now (p .entry)))) ⌝ }
+    ensures { λ r. ⌜ locationNumber r ≡ firstOf (locationCauses s (now (p .entry))) ⌝ }
 {
     let l = located_in(p);
     let replication = numbers::wide(p[1]);

@@ -32,7 +32,7 @@ mask-wrong-requires c κs = search needs
 -- src/parameters.rt:105:9
 returns : tie.Need-returns
 unfolding extentCauses firstOf pick reservedIn sizeIn
-returns c = (simp (← (c .before .before .before .extent-in .ensures), ← (c .before .mask-wrong .ensures), c .if1 .taken), λ z. absurd (omega arith))
+returns c = simp (← (c .before .before .before .extent-in .ensures), ← (c .before .mask-wrong .ensures), c .if1 .taken)
 
 -- src/parameters.rt:107:8
 maintenance-requires : tie.Need-maintenance-requires
@@ -41,7 +41,7 @@ maintenance-requires c κs = search needs
 -- src/parameters.rt:108:9
 returns-2 : tie.Need-returns-2
 unfolding extentCauses firstOf pick reservedIn sizeIn
-returns-2 c = (simp (← (c .before .before .before .before .before .extent-in .ensures), ← (c .before .before .before .mask-wrong .ensures), c .before .before .if1 .left, ← (c .before .maintenance .ensures), c .if2 .taken), λ z. absurd (omega arith))
+returns-2 c = simp (← (c .before .before .before .before .before .extent-in .ensures), ← (c .before .before .before .mask-wrong .ensures), c .before .before .if1 .left, ← (c .before .maintenance .ensures), c .if2 .taken)
 
 -- src/parameters.rt:110:19
 be2-requires : tie.Need-be2-requires
@@ -54,12 +54,12 @@ size-wrong-requires c κs = search needs
 -- src/parameters.rt:111:9
 returns-3 : tie.Need-returns-3
 unfolding extentCauses firstOf pick reservedIn sizeIn
-returns-3 c = (simp (← (c .before .before .before .before .before .before .before .before .extent-in .ensures), ← (c .before .before .before .before .before .before .mask-wrong .ensures), c .before .before .before .before .before .if1 .left, ← (c .before .before .before .before .maintenance .ensures), c .before .before .before .if2 .left, ← (c .before .before .be2 .ensures .0), ← (c .before .size-wrong .ensures), c .if3 .taken), λ z. absurd (omega arith))
+returns-3 c = simp (← (c .before .before .before .before .before .before .before .before .extent-in .ensures), ← (c .before .before .before .before .before .before .mask-wrong .ensures), c .before .before .before .before .before .if1 .left, ← (c .before .before .before .before .maintenance .ensures), c .before .before .before .if2 .left, ← (c .before .before .be2 .ensures .0), ← (c .before .size-wrong .ensures), c .if3 .taken)
 
 -- src/parameters.rt:114:9
 returns-4 : tie.Need-returns-4
 unfolding extentCauses firstOf pick reservedIn sizeIn
-returns-4 c = (simp (← (c .before .before .before .before .before .before .before .before .before .before .extent-in .ensures), ← (c .before .before .before .before .before .before .before .before .mask-wrong .ensures), c .before .before .before .before .before .before .before .if1 .left, ← (c .before .before .before .before .before .before .maintenance .ensures), c .before .before .before .before .before .if2 .left, ← (c .before .before .before .before .be2 .ensures .0), ← (c .before .before .before .size-wrong .ensures), c .before .before .if3 .left, lt-ltb _ _ (c .if4 .taken)), λ z. absurd (omega arith))
+returns-4 c = simp (← (c .before .before .before .before .before .before .before .before .before .before .extent-in .ensures), ← (c .before .before .before .before .before .before .before .before .mask-wrong .ensures), c .before .before .before .before .before .before .before .if1 .left, ← (c .before .before .before .before .before .before .maintenance .ensures), c .before .before .before .before .before .if2 .left, ← (c .before .before .before .before .be2 .ensures .0), ← (c .before .before .before .size-wrong .ensures), c .before .before .if3 .left, lt-ltb _ _ (c .if4 .taken))
 
 -- src/parameters.rt:116:8
 past-device-requires : tie.Need-past-device-requires
@@ -68,12 +68,12 @@ past-device-requires c κs = search needs
 -- src/parameters.rt:117:9
 returns-5 : tie.Need-returns-5
 unfolding extentCauses firstOf pick reservedIn sizeIn
-returns-5 c = (simp (← (c .before .before .before .before .before .before .before .before .before .before .before .before .extent-in .ensures), ← (c .before .before .before .before .before .before .before .before .before .before .mask-wrong .ensures), c .before .before .before .before .before .before .before .before .before .if1 .left, ← (c .before .before .before .before .before .before .before .before .maintenance .ensures), c .before .before .before .before .before .before .before .if2 .left, ← (c .before .before .before .before .before .before .be2 .ensures .0), ← (c .before .before .before .before .before .size-wrong .ensures), c .before .before .before .before .if3 .left, le-ltb _ _ (c .before .before .if4 .left), ← (c .before .past-device .ensures), c .if5 .taken), λ z. absurd (omega arith))
+returns-5 c = simp (← (c .before .before .before .before .before .before .before .before .before .before .before .before .extent-in .ensures), ← (c .before .before .before .before .before .before .before .before .before .before .mask-wrong .ensures), c .before .before .before .before .before .before .before .before .before .if1 .left, ← (c .before .before .before .before .before .before .before .before .maintenance .ensures), c .before .before .before .before .before .before .before .if2 .left, ← (c .before .before .before .before .before .before .be2 .ensures .0), ← (c .before .before .before .before .before .size-wrong .ensures), c .before .before .before .before .if3 .left, le-ltb _ _ (c .before .before .if4 .left), ← (c .before .past-device .ensures), c .if5 .taken)
 
 -- src/parameters.rt:98:1
 returns-6 : tie.Need-returns-6
 unfolding extentCauses firstOf pick reservedIn sizeIn
-returns-6 c = (simp (← (c .before .before .before .before .before .before .before .before .before .before .before .before .extent-in .ensures), ← (c .before .before .before .before .before .before .before .before .before .before .mask-wrong .ensures), c .before .before .before .before .before .before .before .before .before .if1 .left, ← (c .before .before .before .before .before .before .before .before .maintenance .ensures), c .before .before .before .before .before .before .before .if2 .left, ← (c .before .before .before .before .before .before .be2 .ensures .0), ← (c .before .before .before .before .before .size-wrong .ensures), c .before .before .before .before .if3 .left, le-ltb _ _ (c .before .before .if4 .left), ← (c .before .past-device .ensures), c .if5 .left), λ z. ap Defined.Taken (c .before .before .before .before .before .before .before .before .before .before .before .before .extent-in .ensures))
+returns-6 c = simp (← (c .before .before .before .before .before .before .before .before .before .before .before .before .extent-in .ensures), ← (c .before .before .before .before .before .before .before .before .before .before .mask-wrong .ensures), c .before .before .before .before .before .before .before .before .before .if1 .left, ← (c .before .before .before .before .before .before .before .before .maintenance .ensures), c .before .before .before .before .before .before .before .if2 .left, ← (c .before .before .before .before .before .before .be2 .ensures .0), ← (c .before .before .before .before .before .size-wrong .ensures), c .before .before .before .before .if3 .left, le-ltb _ _ (c .before .before .if4 .left), ← (c .before .past-device .ensures), c .if5 .left)
 
 pub define-parameters-spec : {M : Type 1} → statement M
 define-parameters-spec =

@@ -49,7 +49,7 @@ modifier-wrong-requires c κs = search needs
 -- src/parameters.rt:296:9
 returns : tie.Need-returns
 unfolding modifiersIn replicationIn
-returns c = (let t = ap firstOf (location-lines _ _ (c .before .before .before .before .before .located-in .result) (c .before .before .before .wide .result) (c .before .before .before .before .before .located-in .ensures .0) (c .before .before .before .wide .ensures .0)) in sym (t ∙ first-here _ _ (sym (c .before .modifier-wrong .ensures) ∙ c .if1 .taken)), λ z. absurd (omega arith))
+returns c = let t = ap firstOf (location-lines _ _ (c .before .before .before .before .before .located-in .result) (c .before .before .before .wide .result) (c .before .before .before .before .before .located-in .ensures .0) (c .before .before .before .wide .ensures .0)) in sym (t ∙ first-here _ _ (sym (c .before .modifier-wrong .ensures) ∙ c .if1 .taken))
 
 -- src/parameters.rt:298:9
 is-operation-requires : tie.Need-is-operation-requires
@@ -58,7 +58,7 @@ is-operation-requires c κs = search needs
 -- src/parameters.rt:299:9
 returns-2 : tie.Need-returns-2
 unfolding modifiersIn replicationIn
-returns-2 c = (let t = ap firstOf (location-lines _ _ (c .before .before .before .before .before .before .before .located-in .result) (c .before .before .before .before .before .wide .result) (c .before .before .before .before .before .before .before .located-in .ensures .0) (c .before .before .before .before .before .wide .ensures .0)) in sym (t ∙ first-later _ _ (sym (c .before .before .before .modifier-wrong .ensures) ∙ c .before .before .if1 .left) ∙ first-here _ _ (ap not (sym (c .before .is-operation .ensures)) ∙ c .if2 .taken)), λ z. absurd (omega arith))
+returns-2 c = let t = ap firstOf (location-lines _ _ (c .before .before .before .before .before .before .before .located-in .result) (c .before .before .before .before .before .wide .result) (c .before .before .before .before .before .before .before .located-in .ensures .0) (c .before .before .before .before .before .wide .ensures .0)) in sym (t ∙ first-later _ _ (sym (c .before .before .before .modifier-wrong .ensures) ∙ c .before .before .if1 .left) ∙ first-here _ _ (ap not (sym (c .before .is-operation .ensures)) ∙ c .if2 .taken))
 
 -- src/parameters.rt:301:8
 count-wrong-requires : tie.Need-count-wrong-requires
@@ -67,7 +67,7 @@ count-wrong-requires c κs = search needs
 -- src/parameters.rt:302:9
 returns-3 : tie.Need-returns-3
 unfolding modifiersIn replicationIn
-returns-3 c = (let t = ap firstOf (location-lines _ _ (c .before .before .before .before .before .before .before .before .before .located-in .result) (c .before .before .before .before .before .before .before .wide .result) (c .before .before .before .before .before .before .before .before .before .located-in .ensures .0) (c .before .before .before .before .before .before .before .wide .ensures .0)) in sym (t ∙ first-later _ _ (sym (c .before .before .before .before .before .modifier-wrong .ensures) ∙ c .before .before .before .before .if1 .left) ∙ first-later _ _ (ap not (sym (c .before .before .before .is-operation .ensures)) ∙ c .before .before .if2 .left) ∙ first-here _ _ (sym (c .before .count-wrong .ensures) ∙ c .if3 .taken)), λ z. absurd (omega arith))
+returns-3 c = let t = ap firstOf (location-lines _ _ (c .before .before .before .before .before .before .before .before .before .located-in .result) (c .before .before .before .before .before .before .before .wide .result) (c .before .before .before .before .before .before .before .before .before .located-in .ensures .0) (c .before .before .before .before .before .before .before .wide .ensures .0)) in sym (t ∙ first-later _ _ (sym (c .before .before .before .before .before .modifier-wrong .ensures) ∙ c .before .before .before .before .if1 .left) ∙ first-later _ _ (ap not (sym (c .before .before .before .is-operation .ensures)) ∙ c .before .before .if2 .left) ∙ first-here _ _ (sym (c .before .count-wrong .ensures) ∙ c .if3 .taken))
 
 -- src/parameters.rt:304:8
 replication-wrong-requires : tie.Need-replication-wrong-requires
@@ -77,7 +77,7 @@ replication-wrong-requires c κs = eqb-false _ _ (either-false _ _ (sym (c .befo
 -- src/parameters.rt:305:9
 returns-4 : tie.Need-returns-4
 unfolding modifiersIn replicationIn
-returns-4 c = (let t = ap firstOf (location-lines _ _ (c .before .before .before .before .before .before .before .before .before .before .before .located-in .result) (c .before .before .before .before .before .before .before .before .before .wide .result) (c .before .before .before .before .before .before .before .before .before .before .before .located-in .ensures .0) (c .before .before .before .before .before .before .before .before .before .wide .ensures .0)) in sym (t ∙ first-later _ _ (sym (c .before .before .before .before .before .before .before .modifier-wrong .ensures) ∙ c .before .before .before .before .before .before .if1 .left) ∙ first-later _ _ (ap not (sym (c .before .before .before .before .before .is-operation .ensures)) ∙ c .before .before .before .before .if2 .left) ∙ first-later _ _ (sym (c .before .before .before .count-wrong .ensures) ∙ c .before .before .if3 .left) ∙ first-here _ _ (sym (c .before .replication-wrong .ensures) ∙ c .if4 .taken)), λ z. absurd (omega arith))
+returns-4 c = let t = ap firstOf (location-lines _ _ (c .before .before .before .before .before .before .before .before .before .before .before .located-in .result) (c .before .before .before .before .before .before .before .before .before .wide .result) (c .before .before .before .before .before .before .before .before .before .before .before .located-in .ensures .0) (c .before .before .before .before .before .before .before .before .before .wide .ensures .0)) in sym (t ∙ first-later _ _ (sym (c .before .before .before .before .before .before .before .modifier-wrong .ensures) ∙ c .before .before .before .before .before .before .if1 .left) ∙ first-later _ _ (ap not (sym (c .before .before .before .before .before .is-operation .ensures)) ∙ c .before .before .before .before .if2 .left) ∙ first-later _ _ (sym (c .before .before .before .count-wrong .ensures) ∙ c .before .before .if3 .left) ∙ first-here _ _ (sym (c .before .replication-wrong .ensures) ∙ c .if4 .taken))
 
 -- src/parameters.rt:307:9
 blocks-processed-requires : tie.Need-blocks-processed-requires
@@ -91,7 +91,7 @@ permit-requires c κs = (operation-low _ (sym (c .before .before .before .before
 -- src/parameters.rt:288:1
 returns-5 : tie.Need-returns-5
 unfolding modifiersIn replicationIn
-returns-5 c = (let t = ap firstOf (location-lines _ _ (c .before .before .before .before .before .before .before .before .before .before .before .before .before .located-in .result) (c .before .before .before .before .before .before .before .before .before .before .before .wide .result) (c .before .before .before .before .before .before .before .before .before .before .before .before .before .located-in .ensures .0) (c .before .before .before .before .before .before .before .before .before .before .before .wide .ensures .0)) in c .permit .ensures .0 ∙ ap (λ (n : ℕ). firstOf (permissionCauses (c .before .before .before .before .before .before .before .before .before .before .before .before .before .before .before .args .s) (c .before .before .before .before .before .before .before .before .before .before .before .before .before .located-in .result) n)) (c .before .blocks-processed .ensures) ∙ sym (t ∙ first-later _ _ (sym (c .before .before .before .before .before .before .before .before .before .modifier-wrong .ensures) ∙ c .before .before .before .before .before .before .before .before .if1 .left) ∙ first-later _ _ (ap not (sym (c .before .before .before .before .before .before .before .is-operation .ensures)) ∙ c .before .before .before .before .before .before .if2 .left) ∙ first-later _ _ (sym (c .before .before .before .before .before .count-wrong .ensures) ∙ c .before .before .before .before .if3 .left) ∙ first-later _ _ (sym (c .before .before .before .replication-wrong .ensures) ∙ c .before .before .if4 .left)), λ z. c .permit .ensures .1 z ∙ ap Location.Found (c .before .before .before .before .before .before .before .before .before .before .before .before .before .located-in .ensures .0))
+returns-5 c = let t = ap firstOf (location-lines _ _ (c .before .before .before .before .before .before .before .before .before .before .before .before .before .located-in .result) (c .before .before .before .before .before .before .before .before .before .before .before .wide .result) (c .before .before .before .before .before .before .before .before .before .before .before .before .before .located-in .ensures .0) (c .before .before .before .before .before .before .before .before .before .before .before .wide .ensures .0)) in c .permit .ensures ∙ ap (λ (n : ℕ). firstOf (permissionCauses (c .before .before .before .before .before .before .before .before .before .before .before .before .before .before .before .args .s) (c .before .before .before .before .before .before .before .before .before .before .before .before .before .located-in .result) n)) (c .before .blocks-processed .ensures) ∙ sym (t ∙ first-later _ _ (sym (c .before .before .before .before .before .before .before .before .before .modifier-wrong .ensures) ∙ c .before .before .before .before .before .before .before .before .if1 .left) ∙ first-later _ _ (ap not (sym (c .before .before .before .before .before .before .before .is-operation .ensures)) ∙ c .before .before .before .before .before .before .if2 .left) ∙ first-later _ _ (sym (c .before .before .before .before .before .count-wrong .ensures) ∙ c .before .before .before .before .if3 .left) ∙ first-later _ _ (sym (c .before .before .before .replication-wrong .ensures) ∙ c .before .before .if4 .left))
 
 pub locate-parameters-spec : {M : Type 1} → statement M
 locate-parameters-spec =

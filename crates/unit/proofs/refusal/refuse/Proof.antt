@@ -1,0 +1,19 @@
+use mathlib.Core.Path.{_∙_}
+use Rattle.model.proofs.Refusals.{refusal-any}
+use borrow.Author.Needs.{needs}
+use Rattle.unit.proofs.refusal.refuse.Statement.{statement}
+use Rattle.unit.proofs.refusal.refuse.Tie as tie
+use Rattle.unit.proofs.refusal.refuse.Reads as reads
+use Rattle.unit.proofs.refusal.refuse.Lts as lts
+use Rattle.unit.proofs.refusal.unit_check.Reads as unit-check-reads
+
+-- src/refusal.rt:69:5
+unit-check-requires : tie.Need-unit-check-requires
+unit-check-requires c κs = search needs
+
+-- src/refusal.rt:65:1
+returns : tie.Need-returns
+returns c = λ p. c .unit-check .ensures ∙ refusal-any _ _ _ p (c .before .pre .2)
+
+pub refuse-spec : {M : Type 1} → statement M
+refuse-spec = tie.close (tie.spec unit-check-requires returns)
