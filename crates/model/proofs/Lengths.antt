@@ -26,10 +26,11 @@ use Rattle.model.specs.Causes.{callCauses}
 use Rattle.model.specs.Commands.{Out, out, noOperation, defineExtent, locate, sent, sense, senseType, readLog, read, write, readIpl, refused, refusal, seen, after, step}
 use Rattle.model.specs.Answer.{answerSize, answerOf}
 use Rattle.model.specs.Chain.{System, system, stepAt, next, run, start, Called, called, callOf}
+use Rattle.model.specs.Safe.{Safe}
 use Rattle.model.proofs.Picks.{pick-ind}
 use Rattle.model.proofs.Steps.{Admitted, Cases, step-cases}
 use Rattle.model.proofs.Endings.{Callable, callable}
-use Rattle.model.proofs.Safety.{Safe, on-device, after-locate, safe-start, step-safe}
+use Rattle.model.proofs.Safety.{on-device, after-locate, safe-start, step-safe}
 
 pub blocks-into-length : (size : ℕ) (store : List ℕ) (block n : ℕ) (bytes : List ℕ) → (block + n) * size ≤ length store → length (blocksInto size store block n bytes) ≡ length store
 unfolding blocksInto blockStart

@@ -1,7 +1,5 @@
 -- A chain's state stays on the device: the extent that stands is on it, and so are the blocks of the LOCATE before.
---     OnDevice, InExtent   an extent is on the device; the blocks of a LOCATE are in the extent
 --     DefineOk, LocateOk   what is known of the parameters where no cause of the table holds
---     Safe                 a state of a chain on a device of so many blocks
 --     step-safe            a command leaves a safe state
 --     on-device            the blocks of the LOCATE before are blocks of the device
 -- No contract cites this file.
@@ -23,16 +21,13 @@ use Rattle.model.specs.Lent.{fetched, blockCount}
 use Rattle.model.specs.Parameters.{extentLength, extentIn, locateLength, locatedIn, replicationIn, processed, address, outside}
 use Rattle.model.specs.Causes.{extentCauses, defineExtentCauses, permissionCauses, locationCauses, locateCauses, transferCauses, a-locate}
 use Rattle.model.specs.Commands.{Out, after, extentSet, locateSet, noOperation, defineExtent, locate, sent, sense, senseType, readLog, read, write, wholeDevice, readIpl, refused, refusal, seen, step}
+use Rattle.model.specs.Safe.{OnDevice, InExtent, Safe}
 use Rattle.model.specs.Chain.{start}
 use Rattle.model.proofs.Picks.{pick-ind, pick-true, pick-false}
 use Rattle.model.proofs.Verdicts.{Failed, either-false, both-false}
 use Rattle.model.proofs.Steps.{Cases, step-cases}
 
 -- parameters that no cause refuses
-
-pub record OnDevice (e : Extent) (blocks : ℕ) : Type 0 where
-  pub order : e .first .0 ≤ e .last .0
-  pub inside : address e (e .last) < blocks
 
 pub record DefineOk (c : Ccw) (e : Extent) (blocks : ℕ) : Type 0 where
   pub long : extentLength ≤ c .count
@@ -44,11 +39,6 @@ define-ok size blocks c s p f = record {
   long = ltb-false _ _ (f .0);
   placed = record { order = ltb-false _ _ (f .1 .1 .1 .1 .1 .0); inside = ltb-true _ _ (not-false _ (f .1 .1 .1 .1 .1 .1 .0)) };
 }
-
-pub record InExtent (e : Extent) (l : Located) : Type 0 where
-  pub some : 1 ≤ l .blocks
-  pub from-first : e .first .0 ≤ l .displacement .0
-  pub to-last : l .displacement .0 + l .blocks ≤ e .last .0 + 1
 
 pub record LocateOk (c : Ccw) (s : State) (l : Located) : Type 0 where
   pub defined : s .defined ≡ true
@@ -81,10 +71,6 @@ unfolding transferCauses
 after-locate follows s f = not-false _ (f .0)
 
 -- the state
-
-pub record Safe (s : State) (blocks : ℕ) : Type 0 where
-  pub extent : s .defined ≡ true → OnDevice (s .extent) blocks
-  pub located : a-locate (s .before) ≡ true → (s .defined ≡ true) × InExtent (s .extent) (s .located)
 
 pub on-device : (s : State) (blocks : ℕ) → Safe s blocks → a-locate (s .before) ≡ true → address (s .extent) (s .located .displacement) + s .located .blocks ≤ blocks
 unfolding address

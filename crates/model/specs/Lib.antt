@@ -9,3 +9,4 @@ pub mod Commands
 pub mod Answer
 pub mod Chain
 pub mod Host
+pub mod Safe

@@ -20,12 +20,12 @@ use Rattle.model.specs.Parameters.{extentLength, extentIn, locateLength, locate
 use Rattle.model.specs.Causes.{programCheck, extentCauses, locationCauses}
 use Rattle.model.specs.Commands.{Out, out, after, extentSet, locateSet, ended, defineExtent, locate, refusal, refused, decided}
 use Rattle.model.proofs.Picks.{pick-ind, pick-true, pick-false}
-use Rattle.unit.specs.Answers.{definedNumber, locationNumber}
+use Rattle.parameters.specs.Answers.{definedNumber, locationNumber}
 use Rattle.unit.specs.Cleared.{cleared, defineDone, locateDone}
-use Rattle.unit.specs.declared.parameters.Defined.{Defined}
-use Rattle.unit.specs.declared.parameters.Defined.the-variants.{Taken, BadMask, Maintenance, BadSize, FirstAfterLast, PastDevice}
-use Rattle.unit.specs.declared.parameters.Location.{Location}
-use Rattle.unit.specs.declared.parameters.Location.the-variants.{Found, BadModifier, BadOperation, BadCount, BadReplication, OutsideExtent, Forbidden, ReadOnly, NoAlternate}
+use Rattle.parameters.specs.declared.define.Defined.{Defined}
+use Rattle.parameters.specs.declared.define.Defined.the-variants.{Taken, BadMask, Maintenance, BadSize, FirstAfterLast, PastDevice}
+use Rattle.parameters.specs.declared.locate.Location.{Location}
+use Rattle.parameters.specs.declared.locate.Location.the-variants.{Found, BadModifier, BadOperation, BadCount, BadReplication, OutsideExtent, Forbidden, ReadOnly, NoAlternate}
 
 module _ (c : Ccw) (s : State) (main store : List ℕ) where
   pub refused-out : (v w : ℕ) (o : Out) (d : Done) → v ≡ w → (w ≡ 0 → ⊥) → d ≡ refusal s w (fetched c main locateLength) → out d main store ≡ decided c s main store v o

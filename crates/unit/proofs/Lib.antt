@@ -1,4 +1,1 @@
-pub mod Stores
-pub mod Tests
-pub mod Locations
 pub mod Deciding

@@ -1,8 +1,9 @@
 // The control commands: NO-OPERATION, DEFINE EXTENT and LOCATE. They move parameters at most, and change no storage.
 use model::ccw::Ccw;
 use model::state::{Before, Done, State};
-use crate::log::{movement_counted, no_sense};
-use crate::parameters::{define_parameters, extent_in, locate_parameters, located_in};
+use records::log::{movement_counted, no_sense};
+use parameters::define::{define_parameters, extent_in};
+use parameters::locate::{locate_parameters, located_in};
 use crate::refusal::{after, ended, extent_set, locate_set, refuse, unit_check};
 
 ghost use mathlib.Core.Path.{_≡_};

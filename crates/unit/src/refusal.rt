@@ -56,8 +56,8 @@ pub fn unit_check(s: State, cause: u8, parameters: [u8; 8]) -> Done
     ensures { λ r. ⌜ r ≡ refusal s cause parameters ⌝ }
 {
     let u = s.unit;
-    let sense = crate::sense::sense_of(cause, parameters);
-    let t = after(s, crate::log::with_sense(u, sense), Before::Other);
+    let sense = records::sense::sense_of(cause, parameters);
+    let t = after(s, records::log::with_sense(u, sense), Before::Other);
     Done { state: t, cause: cause, moved: 0, can: 0, blocks: 0 }
 }
 

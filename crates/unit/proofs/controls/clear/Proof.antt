@@ -4,7 +4,7 @@ use Rattle.unit.proofs.controls.clear.Statement.{statement}
 use Rattle.unit.proofs.controls.clear.Tie as tie
 use Rattle.unit.proofs.controls.clear.Reads as reads
 use Rattle.unit.proofs.controls.clear.Lts as lts
-use Rattle.unit.proofs.log.no_sense.Reads as no-sense-reads
+use Rattle.records.proofs.log.no_sense.Reads as no-sense-reads
 use Rattle.unit.proofs.refusal.after.Reads as after-reads
 
 -- src/controls.rt:29:14

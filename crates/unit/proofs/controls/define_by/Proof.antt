@@ -5,10 +5,10 @@ use Rattle.unit.proofs.controls.define_by.Statement.{statement}
 use Rattle.unit.proofs.controls.define_by.Tie as tie
 use Rattle.unit.proofs.controls.define_by.Reads as reads
 use Rattle.unit.proofs.controls.define_by.Lts as lts
-use Rattle.unit.proofs.log.no_sense.Reads as no-sense-reads
-use Rattle.unit.proofs.parameters.Defined.number.Reads as number-reads
-use Rattle.unit.proofs.parameters.define_parameters.Reads as define-parameters-reads
-use Rattle.unit.proofs.parameters.extent_in.Reads as extent-in-reads
+use Rattle.records.proofs.log.no_sense.Reads as no-sense-reads
+use Rattle.parameters.proofs.define.Defined.number.Reads as number-reads
+use Rattle.parameters.proofs.define.define_parameters.Reads as define-parameters-reads
+use Rattle.parameters.proofs.define.extent_in.Reads as extent-in-reads
 use Rattle.unit.proofs.refusal.ended.Reads as ended-reads
 use Rattle.unit.proofs.refusal.extent_set.Reads as extent-set-reads
 use Rattle.unit.proofs.refusal.refuse.Reads as refuse-reads

@@ -9,11 +9,11 @@ use Rattle.unit.proofs.controls.locate_by.Tie as tie
 use Rattle.unit.proofs.controls.locate_by.Reads as reads
 use Rattle.unit.proofs.controls.locate_by.Lts as lts
 use Rattle.unit.proofs.controls.eight.Reads as eight-reads
-use Rattle.unit.proofs.log.movement_counted.Reads as movement-counted-reads
-use Rattle.unit.proofs.log.no_sense.Reads as no-sense-reads
-use Rattle.unit.proofs.parameters.Location.number.Reads as number-reads
-use Rattle.unit.proofs.parameters.locate_parameters.Reads as locate-parameters-reads
-use Rattle.unit.proofs.parameters.located_in.Reads as located-in-reads
+use Rattle.records.proofs.log.movement_counted.Reads as movement-counted-reads
+use Rattle.records.proofs.log.no_sense.Reads as no-sense-reads
+use Rattle.parameters.proofs.locate.Location.number.Reads as number-reads
+use Rattle.parameters.proofs.locate.locate_parameters.Reads as locate-parameters-reads
+use Rattle.parameters.proofs.locate.located_in.Reads as located-in-reads
 use Rattle.unit.proofs.refusal.ended.Reads as ended-reads
 use Rattle.unit.proofs.refusal.locate_set.Reads as locate-set-reads
 use Rattle.unit.proofs.refusal.unit_check.Reads as unit-check-reads

@@ -4,9 +4,9 @@ use Rattle.unit.proofs.refusal.unit_check.Statement.{statement}
 use Rattle.unit.proofs.refusal.unit_check.Tie as tie
 use Rattle.unit.proofs.refusal.unit_check.Reads as reads
 use Rattle.unit.proofs.refusal.unit_check.Lts as lts
-use Rattle.unit.proofs.log.with_sense.Reads as with-sense-reads
+use Rattle.records.proofs.log.with_sense.Reads as with-sense-reads
 use Rattle.unit.proofs.refusal.after.Reads as after-reads
-use Rattle.unit.proofs.sense.sense_of.Reads as sense-of-reads
+use Rattle.records.proofs.sense.sense_of.Reads as sense-of-reads
 
 -- src/refusal.rt:59:9
 sense-of-requires : tie.Need-sense-of-requires

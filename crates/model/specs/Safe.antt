@@ -1,0 +1,26 @@
+-- A state of a chain that stays on the device. No way in asks for it; functions between them hand it on.
+--     OnDevice   the extent is in order, and its last block is one of the device's
+--     InExtent   the blocks of a LOCATE are in the extent
+--     Safe       the extent that stands is on the device, and the LOCATE directly before is in it
+-- That every command leaves a safe state is proved in `proofs/Safety.antt`. Assumes nothing.
+use Prim.Native.Nat.{ℕ, _+_, _≤_, _<_}
+use mathlib.Core.Path.{_≡_}
+use mathlib.Core.Bool.{true}
+use Rattle.model.specs.declared.extent.Extent.{Extent}
+use Rattle.model.specs.declared.extent.Located.{Located}
+use Rattle.model.specs.declared.state.State.{State}
+use Rattle.model.specs.Parameters.{address}
+use Rattle.model.specs.Causes.{a-locate}
+
+pub record OnDevice (e : Extent) (blocks : ℕ) : Type 0 where
+  pub order : e .first .0 ≤ e .last .0
+  pub inside : address e (e .last) < blocks
+
+pub record InExtent (e : Extent) (l : Located) : Type 0 where
+  pub some : 1 ≤ l .blocks
+  pub from-first : e .first .0 ≤ l .displacement .0
+  pub to-last : l .displacement .0 + l .blocks ≤ e .last .0 + 1
+
+pub record Safe (s : State) (blocks : ℕ) : Type 0 where
+  pub extent : s .defined ≡ true → OnDevice (s .extent) blocks
+  pub located : a-locate (s .before) ≡ true → (s .defined ≡ true) × InExtent (s .extent) (s .located)

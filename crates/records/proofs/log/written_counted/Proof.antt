@@ -1,0 +1,16 @@
+-- `unit::log::written_counted` meets its contract: the field that changes is the sum that stops.
+-- Assumes nothing.
+use borrow.Author.Needs.{needs}
+use Rattle.model.specs.Log.{withCounts, writtenCounted}
+use Rattle.records.proofs.log.written_counted.Statement.{statement}
+use Rattle.records.proofs.log.written_counted.Tie as tie
+
+returns : tie.Need-returns
+unfolding writtenCounted withCounts
+returns c = rw (c .added3 .ensures)
+
+pub written-counted-spec : {M : Type 1} → statement M
+written-counted-spec = tie.close
+    (tie.spec
+    (search needs)  -- added3-requires
+    returns)
