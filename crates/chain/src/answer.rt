@@ -3,10 +3,10 @@ ghost use mathlib.Core.Path.{_≡_};
 ghost use Prim.Native.Nat.{_-_};
 ghost use Rattle.model.specs.Answer.{unitStatus, wrongLength, channelStatus, answerOf, goesOn};
 ghost use Rattle.model.specs.Causes.{programCheck};
-
 use model::ccw::Ccw;
 use model::state::Done;
-use model::status::{Channel, Status};
+use model::status::Channel;
+use model::status::Status;
 
 const NO_OPERATION: u8 = 0x03;
 
@@ -75,7 +75,16 @@ pub fn answer_of(c: Ccw, d: Done) -> [u8; 8]
     let channel = channel_status(c, d);
     let residual = numbers::bytes2(less(c.count, d.moved));
     let blocks = numbers::bytes2(d.blocks);
-    [unit.0, channel.0, residual[0], residual[1], d.cause, 0, blocks[0], blocks[1]]
+    [
+        unit.0,
+        channel.0,
+        residual[0],
+        residual[1],
+        d.cause,
+        0,
+        blocks[0],
+        blocks[1],
+    ]
 }
 
 // A refusal ends the chain, and so do a wrong length and a CCW without flag 40.

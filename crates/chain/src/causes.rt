@@ -6,7 +6,6 @@ ghost use lib.Dec.{ltb, eqb};
 ghost use lib.ListN.{length};
 ghost use Rattle.model.specs.Rules.{firstOf};
 ghost use Rattle.model.specs.Causes.{allChained, callCauses};
-
 use crate::ccw::ccw_at;
 
 // No CCW, more than 32, or a part of one.

@@ -3,8 +3,8 @@ ghost use mathlib.Core.Path.{_≡_};
 ghost use Prim.Native.Nat.{_+_, _*_, _≤_, _<_};
 ghost use lib.ListN.{length};
 ghost use Rattle.model.specs.Lent.{ccwAt};
-
-use model::ccw::{Ccw, Flags};
+use model::ccw::Ccw;
+use model::ccw::Flags;
 
 // CCW i, counted from 0. The bounds are for those who add address and count.
 pub fn ccw_at(chain: &[u8], i: usize) -> Ccw
