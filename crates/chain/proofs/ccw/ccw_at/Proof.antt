@@ -1,0 +1,23 @@
+-- `ccw::ccw_at` meets its contract: each field is the bytes that the definition reads, and be2 and be3 hand on the bounds. Assumes nothing.
+use Rattle.model.specs.Lent.{ccwAt}
+use borrow.Author.Needs.{needs}
+use Rattle.chain.proofs.ccw.ccw_at.Statement.{statement}
+use Rattle.chain.proofs.ccw.ccw_at.Tie as tie
+
+returns : tie.Need-returns
+unfolding ccwAt
+returns c = (cc, search needs, search needs)
+
+pub ccw-at-spec : {M : Type 1} → statement M
+ccw-at-spec =
+    tie.close
+    (tie.spec
+    (search needs)  -- mul-at
+    (search needs)  -- shared-slice-read-t5
+    (search needs)  -- add-be3
+    (search needs)  -- be3-requires
+    (search needs)  -- add-t8
+    (search needs)  -- shared-slice-read-t10
+    (search needs)  -- add-be2
+    (search needs)  -- be2-requires
+    returns)
