@@ -221,12 +221,11 @@ blocks-into-bytes size store block (suc n) bytes b d =
     blocks-into-bytes size _ (block + 1) n _ (bytes-put store _ _ b (bytes-pad size bytes d)) (bytes-drop size bytes d)
 
 -- a block that is begun has a byte, so there are no more of them than bytes
-begun-least : (size n k : ℕ) → 1 ≤ size → begun size (min n k) ≤ n
+pub begun-least : (size n : ℕ) → 1 ≤ size → begun size n ≤ n
 unfolding begun
-begun-least size n k h =
-    let m : ℕ = min n k in
-    let e : m * 1 ≤ m * size = mul-le-mul-left m h in
-    let l : (m + (size - 1)) / size < m + 1 = div-lt-iff-lt-mul h .1 (omega (arith, e)) in
+begun-least size n h =
+    let e : n * 1 ≤ n * size = mul-le-mul-left n h in
+    let l : (n + (size - 1)) / size < n + 1 = div-lt-iff-lt-mul h .1 (omega (arith, e)) in
     omega (arith, l)
 
 log-bytes : (u : Record) → IsRecord u → AreBytes (logOf u)
@@ -289,7 +288,7 @@ module _ (size : ℕ) (c : Ccw) (s : State) (main store : List ℕ) (h : 1 ≤ s
           store-bytes = d;
           cause-byte = omega arith;
           moved-fits = omega arith;
-          blocks-fit = begun-least size (c .count) _ h;
+          blocks-fit = omega (arith, begun-least size (min (c .count) (s .located .blocks * size)) h);
         };
         write = λ _ _ _. record {
           unit-fields = pick-ind IsRecord _ _ _ (λ _. written-counted-record _ _ k) (λ _. k);
@@ -297,7 +296,7 @@ module _ (size : ℕ) (c : Ccw) (s : State) (main store : List ℕ) (h : 1 ≤ s
           store-bytes = blocks-into-bytes size store _ _ _ d (bytes-part main _ _ m);
           cause-byte = omega arith;
           moved-fits = omega arith;
-          blocks-fit = begun-least size (c .count) _ h;
+          blocks-fit = omega (arith, begun-least size (min (c .count) (s .located .blocks * size)) h);
         };
         read-ipl = λ a _ _. record {
           unit-fields = movement-counted-record _ (read-counted-record 1 _ k);

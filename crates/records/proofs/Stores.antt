@@ -15,7 +15,7 @@ use lib.Dec.{eqb}
 use lib.ListN.{length, take, drop, set, replicate}
 use lib.Seq.{take-all, drop-length, sets-eq}
 use Rattle.moves.specs.Parts.{zeros, put}
-use Rattle.moves.proofs.Laws.{length-put-is, take-put}
+use Rattle.moves.proofs.Laws.{length-zeros, length-put-is, take-put}
 use Rattle.model.specs.declared.record.Record.{Record}
 use Rattle.model.specs.Rules.{pick}
 use Rattle.model.specs.Sense.{senseTable, rowIn, senseOf}
@@ -52,6 +52,13 @@ pub record Arrays (u : Record) : Type 0 where
   pub read : length (u .«blocks_read») ≡ 3
   pub written : length (u .«blocks_written») ≡ 3
   pub movements : length (u .movements) ≡ 2
+
+pub log-length : (u : Record) → Arrays u → length (logOf u) ≡ 24
+unfolding logOf
+log-length u a =
+    length-put-is 24 _ _ _ (length-put-is 24 _ _ _ (length-put-is 24 _ _ _
+      (length-put-is 24 _ _ _ (length-put-is 24 _ _ _ (length-zeros 24) (omega arith)) (omega arith))
+      (rw (a .read) (omega arith))) (rw (a .written) (omega arith))) (rw (a .movements) (omega arith))
 
 -- the log before the counts are put
 abbrev headed : List ℕ

@@ -2,18 +2,23 @@
 --     cleared      the state with no sense, as every command but NO-OPERATION and SENSE begins (01: "zeroes the pending sense")
 --     defineDone   DEFINE EXTENT by its sixteen bytes: refused by the first of 22 to 26 that holds, or accepted
 --     locateDone   LOCATE by its eight bytes: by 32 to 39, likewise
+--     readDone, writeDone   the answer and state of a READ and of a WRITE that moved n bytes of the `can` that they could
+--     Sized        the numbers are as small as a call has them, so that no sum and no product of them wraps
 -- Assumes nothing.
-use Prim.Native.Nat.{ℕ}
+use Prim.Native.Nat.{ℕ, _≤_, _<_}
 use mathlib.Core.List.{List}
+use lib.ListN.{length}
 use Rattle.moves.specs.Parts.{zeros}
+use Rattle.model.specs.declared.ccw.Ccw.{Ccw}
 use Rattle.model.specs.declared.state.Before.the-variants.{Other}
 use Rattle.model.specs.declared.state.State.{State}
 use Rattle.model.specs.declared.state.Done.{Done}
+use Rattle.model.specs.Names.{write-check}
 use Rattle.model.specs.Rules.{_=?_, pick, firstOf}
 use Rattle.model.specs.Parameters.{extentLength, extentIn, locateLength, locatedIn}
 use Rattle.model.specs.Causes.{extentCauses, locationCauses}
-use Rattle.model.specs.Log.{withSense, movementCounted}
-use Rattle.model.specs.Commands.{after, extentSet, locateSet, ended, refusal}
+use Rattle.model.specs.Log.{withSense, readCounted, writtenCounted, movementCounted}
+use Rattle.model.specs.Commands.{after, extentSet, locateSet, ended, refusal, begun}
 
 unfoldable pub cleared : State → State
 cleared s = after s (withSense (s .unit) (zeros 24)) (s .before)
@@ -27,3 +32,18 @@ unfoldable pub locateDone : State → List ℕ → Done
 locateDone s p =
     let cause = firstOf (locationCauses s p) in
     pick (cause =? 0) (ended (locateSet s (movementCounted (withSense (s .unit) (zeros 24))) (locatedIn p)) locateLength locateLength 0) (refusal s cause p)
+
+unfoldable pub readDone : ℕ → State → ℕ → ℕ → Done
+readDone size s n can = ended (after s (readCounted (begun size n) (withSense (s .unit) (zeros 24))) Other) n can (begun size n)
+
+unfoldable pub writeDone : ℕ → State → ℕ → ℕ → Done
+writeDone size s n can =
+    let l = s .located in
+    let u = withSense (s .unit) (zeros 24) in
+    ended (after s (pick (l .operation =? write-check) (writtenCounted (l .blocks) u) u) Other) n can (begun size n)
+
+pub record Sized (size : ℕ) (c : Ccw) (store : List ℕ) : Type 0 where
+  pub some : 1 ≤ size
+  pub small : size ≤ 65535
+  pub count : c .count < 65536
+  pub held : length store < 4294967296

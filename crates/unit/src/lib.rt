@@ -3,3 +3,4 @@ pub mod transfer;
 pub mod refusal;
 pub mod controls;
 pub mod senses;
+pub mod blocks;

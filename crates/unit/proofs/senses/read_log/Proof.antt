@@ -1,3 +1,4 @@
+use Rattle.records.proofs.Stores.{Arrays, log-length}
 use mathlib.Core.Path.{_≡_, refl, sym, ap, _∙_}
 use lib.ListN.{length}
 use Rattle.model.specs.Commands.{readLog}
@@ -9,6 +10,9 @@ use Rattle.unit.proofs.senses.read_log.Lts as lts
 use Rattle.records.proofs.log.Log.of.Reads as of-reads
 use Rattle.records.proofs.log.log_reset.Reads as log-reset-reads
 use Rattle.unit.proofs.senses.send.Reads as send-reads
+
+arrays : (c : tie.Start) → Arrays (c .args .s .unit)
+arrays c = record { sense = search needs; read = search needs; written = search needs; movements = search needs }
 
 -- src/senses.rt:51:9
 of-requires : tie.Need-of-requires
@@ -33,7 +37,7 @@ same-length c = search needs
 -- src/senses.rt:46:1
 returns : tie.Need-returns
 unfolding readLog
-returns c = λ store. let long : length (c .before .before .before .before .before .before .before .of .result .0) ≡ 24 = search needs in c .before .before .send .ensures store ∙ rw (long, c .before .before .before .before .before .before .before .of .ensures, c .before .before .before .log-reset .ensures)
+returns c = λ store. let long : length (c .before .before .before .before .before .before .before .of .result .0) ≡ 24 = ap length (c .before .before .before .before .before .before .before .of .ensures) ∙ log-length _ (arrays (c .before .before .before .before .before .before .before .before .before .before)) in c .before .before .send .ensures store ∙ rw (long, c .before .before .before .before .before .before .before .of .ensures, c .before .before .before .log-reset .ensures)
 
 pub read-log-spec : {M : Type 1} → statement M
 read-log-spec =
