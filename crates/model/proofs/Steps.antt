@@ -52,6 +52,22 @@ module _ (size : ℕ) (c : Ccw) (s : State) (main store : List ℕ) where
   unfolding step decided
   step-refused n = pick-false _ _ _ (ne-eqb _ _ n)
 
+  -- the verdict of the channel, and of the unit where the channel passes the command on
+  pub early-channel : (w : ℕ) → firstOf (channelCauses c main) ≡ w → (w ≡ 0 → ⊥) → firstOf (channelCauses c main ++ unitCauses c s) ≡ w
+  unfolding channelCauses
+  early-channel w e n = first-append (channelCauses c main) (unitCauses c s) refl ∙ rw e (pick-false _ _ _ (ne-eqb _ _ n))
+
+  pub early-unit : (w : ℕ) → firstOf (channelCauses c main) ≡ 0 → firstOf (unitCauses c s) ≡ w → firstOf (channelCauses c main ++ unitCauses c s) ≡ w
+  unfolding channelCauses
+  early-unit w e f = first-append (channelCauses c main) (unitCauses c s) refl ∙ rw (e, f) (pick-true _ _ _ refl)
+
+  pub channel-room : firstOf (channelCauses c main) ≡ 0 → (c .command ≡ NO-OPERATION → ⊥) → c .address + c .count ≤ length main
+  unfolding channelCauses
+  channel-room e n =
+      let f = failed-all 0 (channelCauses c main) refl e in
+      let other : not (c .command =? NO-OPERATION) ≡ true = rw (ne-eqb _ _ n) refl in
+      ltb-false _ _ (both-false _ _ (f .1 .1 .1 .0) other)
+
   -- the channel or the unit itself refuses the command
   pub step-early : (w : ℕ) → firstOf (channelCauses c main ++ unitCauses c s) ≡ w → (w ≡ 0 → ⊥) → step size c s main store ≡ refused c s main store w
   unfolding verdict causesOf channelCauses unitCauses

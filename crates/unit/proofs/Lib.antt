@@ -1,2 +1,3 @@
 pub mod Deciding
 pub mod Transfers
+pub mod Performing

@@ -6,7 +6,7 @@ use mathlib.Core.Path.{_≡_, refl, sym, ap, _∙_}
 use mathlib.Core.Bool.{true}
 use mathlib.Core.List.{List}
 use lib.ListN.{length, take}
-use native.Mathlib.Nat.{mul-le-mul-left, mul-le-mul-right}
+use native.Mathlib.Nat.{mul-le-mul-left, mul-le-mul-right, div-le-self}
 use native.Mathlib.Omega.{arith}
 use Rattle.moves.specs.Parts.{put}
 use Rattle.model.specs.declared.ccw.Ccw.{Ccw}
@@ -15,11 +15,11 @@ use Rattle.model.specs.declared.state.Done.{Done}
 use Rattle.model.specs.Lent.{fetched, delivered, blockCount, blocksFrom, blocksInto}
 use Rattle.model.specs.Parameters.{address}
 use Rattle.model.specs.Causes.{a-locate}
-use Rattle.model.specs.Commands.{out, after, extentSet, read, write, readIpl}
+use Rattle.model.specs.Commands.{out, after, extentSet, read, write, wholeDevice, readIpl}
 use Rattle.model.specs.Safe.{Safe}
 use Rattle.model.proofs.Safety.{on-device}
 use Rattle.model.proofs.Lengths.{in-store}
-use Rattle.unit.specs.Cleared.{cleared, readDone, writeDone, Sized}
+use Rattle.unit.specs.Cleared.{cleared, readDone, writeDone, wholeOf, iplDone, Sized}
 
 pub record Placed (size : ℕ) (s : State) (store : List ℕ) : Type 0 where
   pub from-first : s .extent .first .0 ≤ s .located .displacement .0
@@ -50,3 +50,14 @@ pub write-moved : (size : ℕ) (c : Ccw) (s : State) (main store store′ bytes 
     → out d main store′ ≡ write size c (cleared s) main store
 unfolding write writeDone cleared after
 write-moved size c s main store store′ bytes block can n d e f g b h k = rw (k, h, b, e, f, g)
+
+pub ipl-moved : (size : ℕ) (c : Ccw) (s : State) (main main′ store : List ℕ) (n : ℕ) (d : Done)
+    → n ≡ min (c .count) size → main′ ≡ put main (c .address) (take n (blocksFrom size store 0 1)) → d ≡ iplDone size s n (blockCount size store)
+    → out d main′ store ≡ readIpl size c (cleared s) main store
+unfolding readIpl iplDone wholeDevice wholeOf cleared after extentSet delivered
+ipl-moved size c s main main′ store n d g h k = rw (k, h, g)
+
+-- the device has a block, and not too many
+pub few-blocks : (size : ℕ) (c : Ccw) (store : List ℕ) → Sized size c store → blockCount size store < 4294967296
+unfolding blockCount
+few-blocks size c store z = let w : length store < 4294967296 = z .held in omega (arith, w, div-le-self (length store) size)

@@ -20,7 +20,7 @@ ghost use Rattle.model.specs.Causes.{a-locate, none-or-ipl, transferCauses, rea
 ghost use Rattle.model.specs.Log.{writtenCounted};
 ghost use Rattle.model.specs.Commands.{out, decided, read, write, readIpl, wholeDevice};
 ghost use Rattle.model.specs.Safe.{Safe};
-ghost use Rattle.unit.specs.Cleared.{cleared, readDone, writeDone, Sized};
+ghost use Rattle.unit.specs.Cleared.{cleared, readDone, writeDone, wholeOf, iplDone, Sized};
 
 // Directly before stood an accepted LOCATE.
 fn after_locate(before: Before) -> bool
@@ -150,4 +150,40 @@ pub fn write(size: usize, c: Ccw, s: State, main: &[u8], store: &mut [u8]) -> Do
     let end = at + m.n;
     blocks_into(size, store, m.block, l.blocks, &main[at..end]);
     write_done(size, s, m)
+}
+
+// The extent that READ IPL sets.
+fn whole_device(blocks: usize) -> Extent
+    requires { ⌜ (1 ≤ blocks) × (blocks < 4294967296) ⌝ }
+    ensures { λ r. ⌜ r ≡ wholeOf blocks ⌝ }
+{
+    Extent {
+        mask: 0,
+        offset: Offset(0),
+        first: Displacement(0),
+        last: Displacement((blocks - 1) as u32),
+    }
+}
+
+// The READ IPL's answer and record, once its bytes are moved.
+fn ipl_done(size: usize, s: State, n: usize, blocks: usize) -> Done
+    requires { ⌜ (1 ≤ blocks) × (blocks < 4294967296) ⌝ }
+    ensures { λ r. ⌜ r ≡ iplDone size s n blocks ⌝ }
+{
+    let u = movement_counted(read_counted(1, no_sense(s.unit)));
+    let t = extent_set(s, u, whole_device(blocks), Before::ReadIpl);
+    ended(t, n, size, 1)
+}
+
+pub fn read_ipl(size: usize, c: Ccw, s: State, main: &mut [u8], store: &[u8]) -> Done
+    requires { ⌜ Sized size c (now store) × (1 ≤ blockCount size (now store)) × (c .address + c .count ≤ length (now main)) ⌝ }
+    ensures { λ r. ⌜ out r (now (main .exit)) (now (store .entry)) ≡ decided c s (now (main .entry)) (now (store .entry)) (firstOf (readIplCauses s)) (readIpl size c (cleared s) (now (main .entry)) (now (store .entry))) ⌝ }
+{
+    let before = s.before;
+    if !none_or_ipl(before) {
+        return refuse(s, 40);
+    }
+    let n = moves::least(c.count, size);
+    blocks_to(size, store, 0, 1, main, c.address, n);
+    ipl_done(size, s, n, store.len() / size)
 }

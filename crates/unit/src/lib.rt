@@ -4,3 +4,4 @@ pub mod refusal;
 pub mod controls;
 pub mod senses;
 pub mod blocks;
+pub mod step;
