@@ -1,4 +1,5 @@
-// How a chain is taken: whether the call may begin, each CCW, and the answer to it.
+// How a chain is done: whether the call may begin, each CCW, the answer to it, and the run.
+pub mod ccw;
 pub mod answer;
 pub mod causes;
-pub mod ccw;
+pub mod run;
