@@ -16,10 +16,11 @@ use Rattle.model.specs.Rules.{pick}
 use Rattle.model.specs.Lent.{ccwAt, blockCount}
 use Rattle.model.specs.Commands.{out, step}
 use Rattle.model.specs.Answer.{answerOf, goesOn}
-use Rattle.model.specs.Chain.{System, system, stepAt, next, more, run}
+use Rattle.model.specs.Chain.{System, system, stepAt, next, more, run, called}
 use Rattle.model.specs.Safe.{Safe}
 use Rattle.model.proofs.Picks.{pick-true, pick-false}
-use Rattle.model.proofs.Lengths.{Going, next-going}
+use Rattle.model.proofs.Lengths.{Going, next-going, some-block}
+use Rattle.model.proofs.Endings.{Callable}
 use Rattle.chain.specs.Promises.{Runnable}
 use Rattle.chain.proofs.Tests.{answer-whole}
 
@@ -98,3 +99,20 @@ pub runnable-same : (size : ℕ) (store store′ : List ℕ) → length store′
 unfolding blockCount
 runnable-same size store store′ e r =
     record { some-size = r .some-size; small-size = r .small-size; some-block = rw e (r .some-block); held = rw e (r .held) }
+
+-- what the call's tests leave known of the device, for blocks of 512
+pub callable-runnable : (chain main store answers : List ℕ) → Callable 512 chain main store answers → Runnable 512 store
+unfolding blockCount
+callable-runnable chain main store answers k =
+    let whole = k .even in
+    let few = k .held in
+    record
+    { some-size = omega arith
+    ; small-size = omega arith
+    ; some-block = some-block 512 store (k .stored) (k .even)
+    ; held = omega (arith, whole, few) }
+
+-- what a run left is what the call gives
+pub called-run : (cause : ℕ) (s : State) (main store answers : List ℕ) (reached : ℕ) (y : System) → system s main store answers reached ≡ y
+    → called cause (system s main store answers reached) ≡ called cause y
+called-run cause s main store answers reached y e = ap (called cause) e

@@ -3,3 +3,4 @@ pub mod ccw;
 pub mod answer;
 pub mod causes;
 pub mod run;
+pub mod call;

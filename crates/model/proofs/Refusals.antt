@@ -1,25 +1,27 @@
 -- Demand 1, of refusals.
 --     call-refused      a call with cause 1 to 5 leaves all that it was lent as it was
+--     call-ran          a call with cause 0 is the run of its chain
 --     host-refused      so does a call from C, with cause 1 to 6
 --     step-untouched    a refused command leaves store and main storage as they were, and of the record changes the sense
 --                       alone; where it is a program check, nothing
 -- Assumes nothing.
-use Prim.Native.Nat.{ℕ, zero, suc, _+_, _*_}
+use Prim.Native.Nat.{ℕ, _/_}
 use mathlib.Core.Path.{_≡_, refl, sym, ap, _∙_}
 use mathlib.Core.Bool.{Bool, true, false}
 use mathlib.Core.List.{List}
+use lib.ListN.{length}
 use borrow.Author.Tests.{eqb-true, ne-eqb}
 use Rattle.model.specs.declared.ccw.Ccw.{Ccw}
 use Rattle.model.specs.declared.record.Record.{Record}
 use Rattle.model.specs.declared.state.Before.the-variants.{Other}
 use Rattle.model.specs.declared.state.State.{State}
 use Rattle.model.specs.Rules.{_=?_, pick, firstOf}
-use Rattle.model.specs.Lent.{fetched}
+use Rattle.model.specs.Lent.{ccwSize, fetched}
 use Rattle.model.specs.Causes.{callCauses, hostCauses, programCheck, verdict}
 use Rattle.model.specs.Sense.{senseOf}
 use Rattle.model.specs.Log.{withSense}
 use Rattle.model.specs.Commands.{Out, after, refused, refusal, step, sent, noOperation, defineExtent, locate, read, write, readIpl, sense, senseType, readLog}
-use Rattle.model.specs.Chain.{Called, callOf, start, system, run}
+use Rattle.model.specs.Chain.{Called, called, callOf, start, system, run}
 use Rattle.model.specs.Host.{Hosted, resultOf, hostCallOf}
 use Rattle.model.proofs.Picks.{pick-ind, pick-true, pick-false}
 use Rattle.model.proofs.Steps.{Cases, step-cases}
@@ -31,6 +33,11 @@ pub call-refused : (size : ℕ) (chain main store : List ℕ) (u : Record) (answ
     → callOf size chain main store u answers ≡ record { cause = w; reached = 0; unit = u; main = main; store = store; answers = answers }
 unfolding callOf start pick
 call-refused size chain main store u answers w e n = rw (e, ne-eqb w 0 n)
+
+pub call-ran : (size : ℕ) (chain main store : List ℕ) (u : Record) (answers : List ℕ) → firstOf (callCauses size chain main store answers) ≡ 0
+    → callOf size chain main store u answers ≡ called 0 (run size chain (length chain / ccwSize) 0 (system (start u) main store answers 0))
+unfolding callOf pick
+call-ran size chain main store u answers e = rw e
 
 pub host-refused : (size : ℕ) (chain main store unit answers : List ℕ) (w : ℕ)
     → firstOf (hostCauses size chain main store unit answers) ≡ w → (w ≡ 0 → ⊥)
