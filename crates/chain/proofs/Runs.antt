@@ -64,14 +64,15 @@ module _ (size : ℕ) (chain main₀ store₀ answers₀ : List ℕ) (n : ℕ) (
       let long : length answers ≡ length answers₀ = u .answers-length in
       let k = next-going size chain y b i y (omega (arith, long)) (record { main-length = refl; store-length = refl; answers-length = refl; safe = u .safe }) in
       let m : Going size y (system t main′ store′ answers′ (i + 1)) = rw e k in
-      record
-      { count = u .count
-      ; below = omega arith
-      ; main-length = m .main-length ∙ u .main-length
-      ; store-length = m .store-length ∙ u .store-length
-      ; answers-length = m .answers-length ∙ u .answers-length
-      ; safe = m .safe
-      ; same = ap (λ (z : System). run size chain (n - (i + 1)) (i + 1) z) e ∙ sym (run-more size chain n i y h g) ∙ u .same }
+      record {
+        count = u .count;
+        below = omega arith;
+        main-length = m .main-length ∙ u .main-length;
+        store-length = m .store-length ∙ u .store-length;
+        answers-length = m .answers-length ∙ u .answers-length;
+        safe = m .safe;
+        same = ap (λ (z : System). run size chain (n - (i + 1)) (i + 1) z) e ∙ sym (run-more size chain n i y h g) ∙ u .same;
+      }
 
   -- a turn that does not go on ends the run
   pub underway-stop : (z : System) → z ≡ next size chain i (system s main store answers i) → more size chain i (system s main store answers i) ≡ false
@@ -106,11 +107,12 @@ unfolding blockCount
 callable-runnable chain main store answers k =
     let whole = k .even in
     let few = k .held in
-    record
-    { some-size = omega arith
-    ; small-size = omega arith
-    ; some-block = some-block 512 store (k .stored) (k .even)
-    ; held = omega (arith, whole, few) }
+    record {
+      some-size = omega arith;
+      small-size = omega arith;
+      some-block = some-block 512 store (k .stored) (k .even);
+      held = omega (arith, whole, few);
+    }
 
 -- what a run left is what the call gives
 pub called-run : (cause : ℕ) (s : State) (main store answers : List ℕ) (reached : ℕ) (y : System) → system s main store answers reached ≡ y

@@ -1,10 +1,13 @@
 // The call: refused as a whole by the first of causes 1 to 5 that holds, or the chain run from a fresh state.
 use crate::causes::call_cause;
 use crate::run::run_chain;
-use model::extent::{Displacement, Extent, Located, Offset};
+use model::extent::Displacement;
+use model::extent::Extent;
+use model::extent::Located;
+use model::extent::Offset;
 use model::record::Record;
-use model::state::{Before, State};
-
+use model::state::Before;
+use model::state::State;
 ghost use mathlib.Core.Path.{_≡_};
 ghost use Rattle.model.specs.Chain.{start, call};
 
@@ -18,9 +21,18 @@ fn start(u: Record) -> State
     State {
         unit: u,
         defined: false,
-        extent: Extent { mask: 0, offset: Offset(0), first: Displacement(0), last: Displacement(0) },
+        extent: Extent {
+            mask: 0,
+            offset: Offset(0),
+            first: Displacement(0),
+            last: Displacement(0),
+        },
         before: Before::Nothing,
-        located: Located { operation: 0, blocks: 0, displacement: Displacement(0) },
+        located: Located {
+            operation: 0,
+            blocks: 0,
+            displacement: Displacement(0),
+        },
     }
 }
 
@@ -42,10 +54,18 @@ pub fn call(
 {
     let cause = call_cause(BLOCK_SIZE, chain, main, store, answers);
     if cause != 0 {
-        return Called { cause: cause, reached: 0, unit: u };
+        return Called {
+            cause: cause,
+            reached: 0,
+            unit: u,
+        };
     }
     let walked = run_chain(BLOCK_SIZE, chain, start(u), main, store, answers);
     let s = walked.state;
     let left = s.unit;
-    Called { cause: 0, reached: walked.reached, unit: left }
+    Called {
+        cause: 0,
+        reached: walked.reached,
+        unit: left,
+    }
 }

@@ -1,9 +1,9 @@
 // The run of a chain: one turn for each command reached, until one of them ends it.
-use crate::answer::{answer_of, goes_on};
+use crate::answer::answer_of;
+use crate::answer::goes_on;
 use crate::ccw::ccw_at;
 use model::state::State;
 use unit::step::step;
-
 ghost use mathlib.Core.Path.{_≡_};
 ghost use Prim.Native.Nat.{ℕ, _+_, _*_, _/_, _≤_, _<_};
 ghost use lib.ListN.{length};
@@ -38,7 +38,10 @@ fn one_turn(
     let a = answer_of(c, d);
     moves::put_at(answers, at, &a, 8);
     let t = d.state;
-    Turn { state: t, go: goes_on(c, d) }
+    Turn {
+        state: t,
+        go: goes_on(c, d),
+    }
 }
 
 // What a run leaves: the state, and the commands reached.
@@ -66,8 +69,14 @@ pub fn run_chain(
         state = t.state;
         i += 1;
         if !t.go {
-            return Walked { state: state, reached: i };
+            return Walked {
+                state: state,
+                reached: i,
+            };
         }
     }
-    Walked { state: state, reached: i }
+    Walked {
+        state: state,
+        reached: i,
+    }
 }

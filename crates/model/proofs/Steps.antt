@@ -73,7 +73,7 @@ module _ (size : ℕ) (c : Ccw) (s : State) (main store : List ℕ) where
   unfolding verdict causesOf channelCauses unitCauses
   step-early w e n =
       let v : verdict size c s main store ≡ w =
-          first-append (channelCauses c main ++ unitCauses c s) (ownCauses size c s main store) refl ∙ rw e (pick-false _ _ _ (ne-eqb _ _ n)) in
+      first-append (channelCauses c main ++ unitCauses c s) (ownCauses size c s main store) refl ∙ rw e (pick-false _ _ _ (ne-eqb _ _ n)) in
       rw v at (step-refused (λ z. n (sym v ∙ z)))
 
   pub past-channel : (w : ℕ) → absent w (channelCauses c main ++ unitCauses c s) ≡ true → verdict size c s main store ≡ w → Admitted c main × (firstOf (ownCauses size c s main store) ≡ w)
@@ -123,7 +123,7 @@ module _ (size : ℕ) (c : Ccw) (s : State) (main store : List ℕ) where
   unfolding step verdict causesOf channelCauses unitCauses
   step-own e =
       let v : verdict size c s main store ≡ firstOf (ownCauses size c s main store) =
-          first-append (channelCauses c main ++ unitCauses c s) (ownCauses size c s main store) refl ∙ rw e (pick-true _ _ _ refl) in
+      first-append (channelCauses c main ++ unitCauses c s) (ownCauses size c s main store) refl ∙ rw e (pick-true _ _ _ refl) in
       ap (λ (w : ℕ). decided c s main store w (accepted size c (seen c s) main store)) v
 
   -- what holds of each command's own table, and of an empty one, holds of the one that the command has

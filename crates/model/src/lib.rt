@@ -1,6 +1,6 @@
 // The unit's own types. What they mean stands in specs/, the unit as a definition.
 pub mod ccw;
-pub mod status;
 pub mod extent;
 pub mod record;
 pub mod state;
+pub mod status;

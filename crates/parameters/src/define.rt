@@ -1,6 +1,8 @@
 // The sixteen bytes of a DEFINE EXTENT: taken apart, and taken or refused.
 // `define_parameters` is the way in; a refusal is a case of its answer, with 01's number.
-use model::extent::{Displacement, Extent, Offset};
+use model::extent::Displacement;
+use model::extent::Extent;
+use model::extent::Offset;
 ghost use mathlib.Core.Path.{_≡_};
 ghost use mathlib.Core.Bool.{true, not, _&&_, _||_};
 ghost use mathlib.Core.List.{[], _∷_};

@@ -1,6 +1,8 @@
 // The eight bytes of a LOCATE: taken apart, and taken or refused.
 // `locate_parameters` is the way in; a refusal is a case of its answer, with 01's number.
-use model::extent::{Displacement, Extent, Located};
+use model::extent::Displacement;
+use model::extent::Extent;
+use model::extent::Located;
 use model::state::State;
 ghost use mathlib.Core.Path.{_≡_};
 ghost use mathlib.Core.Bool.{true, not, _&&_, _||_};
@@ -64,7 +66,22 @@ pub fn located_in(p: &[u8]) -> Located
 
 // By operation: 1 write, 2 read replicated, 4 format, 5 write and check, 6 read.
 const OPERATIONS: [bool; 16] = [
-    false, true, true, false, true, true, true, false, false, false, false, false, false, false, false, false,
+    false,
+    true,
+    true,
+    false,
+    true,
+    true,
+    true,
+    false,
+    false,
+    false,
+    false,
+    false,
+    false,
+    false,
+    false,
+    false,
 ];
 
 fn is_operation(operation: u8) -> bool
@@ -107,7 +124,11 @@ fn replication_wrong(l: Located, replication: usize) -> bool
 fn blocks_processed(l: Located, replication: usize) -> usize
     ensures { λ r. ⌜ r ≡ pick (eqb (l .operation) 2) replication (l .blocks) ⌝ }
 {
-    if l.operation == 2 { replication } else { l.blocks }
+    if l.operation == 2 {
+        replication
+    } else {
+        l.blocks
+    }
 }
 
 fn outside_extent(e: Extent, d: Displacement, n: usize) -> bool

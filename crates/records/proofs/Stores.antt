@@ -57,8 +57,8 @@ pub log-length : (u : Record) → Arrays u → length (logOf u) ≡ 24
 unfolding logOf
 log-length u a =
     length-put-is 24 _ _ _ (length-put-is 24 _ _ _ (length-put-is 24 _ _ _
-      (length-put-is 24 _ _ _ (length-put-is 24 _ _ _ (length-zeros 24) (omega arith)) (omega arith))
-      (rw (a .read) (omega arith))) (rw (a .written) (omega arith))) (rw (a .movements) (omega arith))
+    (length-put-is 24 _ _ _ (length-put-is 24 _ _ _ (length-zeros 24) (omega arith)) (omega arith))
+    (rw (a .read) (omega arith))) (rw (a .written) (omega arith))) (rw (a .movements) (omega arith))
 
 -- the log before the counts are put
 abbrev headed : List ℕ

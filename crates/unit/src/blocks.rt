@@ -1,12 +1,23 @@
 // READ, WRITE and READ IPL: the commands that move blocks. The block size is a parameter: nothing here knows 512.
-use crate::refusal::{after, ended, extent_set, refuse};
-use crate::transfer::{begun, blocks_into, blocks_to};
+use crate::refusal::after;
+use crate::refusal::ended;
+use crate::refusal::extent_set;
+use crate::refusal::refuse;
+use crate::transfer::begun;
+use crate::transfer::blocks_into;
+use crate::transfer::blocks_to;
 use model::ccw::Ccw;
-use model::extent::{Displacement, Extent, Offset};
+use model::extent::Displacement;
+use model::extent::Extent;
+use model::extent::Offset;
 use model::record::Record;
-use model::state::{Before, Done, State};
-use records::log::{movement_counted, no_sense, read_counted, written_counted};
-
+use model::state::Before;
+use model::state::Done;
+use model::state::State;
+use records::log::movement_counted;
+use records::log::no_sense;
+use records::log::read_counted;
+use records::log::written_counted;
 ghost use mathlib.Core.Path.{_≡_};
 ghost use mathlib.Core.Bool.{true, false};
 ghost use mathlib.Core.List.{List};
@@ -80,7 +91,11 @@ fn located_move(size: usize, c: Ccw, s: State, store: &[u8]) -> Move
     let l = s.located;
     let block = e.address(l.displacement) as usize;
     let can = l.blocks * size;
-    Move { block: block, can: can, n: moves::least(c.count, can) }
+    Move {
+        block: block,
+        can: can,
+        n: moves::least(c.count, can),
+    }
 }
 
 // The READ's answer and record, once its bytes are moved.

@@ -1,11 +1,20 @@
 // The control commands: NO-OPERATION, DEFINE EXTENT and LOCATE. They move parameters at most, and change no storage.
+use crate::refusal::after;
+use crate::refusal::ended;
+use crate::refusal::extent_set;
+use crate::refusal::locate_set;
+use crate::refusal::refuse;
+use crate::refusal::unit_check;
 use model::ccw::Ccw;
-use model::state::{Before, Done, State};
-use records::log::{movement_counted, no_sense};
-use parameters::define::{define_parameters, extent_in};
-use parameters::locate::{locate_parameters, located_in};
-use crate::refusal::{after, ended, extent_set, locate_set, refuse, unit_check};
-
+use model::state::Before;
+use model::state::Done;
+use model::state::State;
+use parameters::define::define_parameters;
+use parameters::define::extent_in;
+use parameters::locate::locate_parameters;
+use parameters::locate::located_in;
+use records::log::movement_counted;
+use records::log::no_sense;
 ghost use mathlib.Core.Path.{_≡_};
 ghost use mathlib.Core.List.{List};
 ghost use Prim.Native.Nat.{ℕ, _+_, _≤_, _<_};

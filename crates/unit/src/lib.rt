@@ -1,7 +1,7 @@
 // How one command is done.
-pub mod transfer;
-pub mod refusal;
-pub mod controls;
-pub mod senses;
 pub mod blocks;
+pub mod controls;
+pub mod refusal;
+pub mod senses;
 pub mod step;
+pub mod transfer;

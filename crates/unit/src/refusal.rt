@@ -1,8 +1,10 @@
 // One way to refuse: the answer to a command that was given a cause, and the state that it leaves.
-use model::extent::{Extent, Located};
+use model::extent::Extent;
+use model::extent::Located;
 use model::record::Record;
-use model::state::{Before, Done, State};
-
+use model::state::Before;
+use model::state::Done;
+use model::state::State;
 ghost use mathlib.Core.Path.{_≡_};
 ghost use mathlib.Core.Bool.{true, false};
 ghost use mathlib.Core.List.{List};
@@ -16,28 +18,52 @@ pub fn after(s: State, u: Record, before: Before) -> State
 {
     let e = s.extent;
     let l = s.located;
-    State { unit: u, defined: s.defined, extent: e, before: before, located: l }
+    State {
+        unit: u,
+        defined: s.defined,
+        extent: e,
+        before: before,
+        located: l,
+    }
 }
 
 pub fn extent_set(s: State, u: Record, e: Extent, before: Before) -> State
     ensures { λ r. ⌜ r ≡ extentSet s u e before ⌝ }
 {
     let l = s.located;
-    State { unit: u, defined: true, extent: e, before: before, located: l }
+    State {
+        unit: u,
+        defined: true,
+        extent: e,
+        before: before,
+        located: l,
+    }
 }
 
 pub fn locate_set(s: State, u: Record, l: Located) -> State
     ensures { λ r. ⌜ r ≡ locateSet s u l ⌝ }
 {
     let e = s.extent;
-    State { unit: u, defined: s.defined, extent: e, before: Before::Locate, located: l }
+    State {
+        unit: u,
+        defined: s.defined,
+        extent: e,
+        before: Before::Locate,
+        located: l,
+    }
 }
 
 // An accepted command.
 pub fn ended(s: State, moved: usize, can: usize, blocks: usize) -> Done
     ensures { λ r. ⌜ r ≡ ended s moved can blocks ⌝ }
 {
-    Done { state: s, cause: 0, moved: moved, can: can, blocks: blocks }
+    Done {
+        state: s,
+        cause: 0,
+        moved: moved,
+        can: can,
+        blocks: blocks,
+    }
 }
 
 // By the channel: the unit did not see the command, and its record stays.
@@ -47,7 +73,13 @@ pub fn program_check(s: State, cause: u8) -> Done
 {
     let u = s.unit;
     let t = after(s, u, Before::Other);
-    Done { state: t, cause: cause, moved: 0, can: 0, blocks: 0 }
+    Done {
+        state: t,
+        cause: cause,
+        moved: 0,
+        can: 0,
+        blocks: 0,
+    }
 }
 
 // By the unit, with the sense of the cause; 39 has the LOCATE's parameters in it.
@@ -58,7 +90,13 @@ pub fn unit_check(s: State, cause: u8, parameters: [u8; 8]) -> Done
     let u = s.unit;
     let sense = records::sense::sense_of(cause, parameters);
     let t = after(s, records::log::with_sense(u, sense), Before::Other);
-    Done { state: t, cause: cause, moved: 0, can: 0, blocks: 0 }
+    Done {
+        state: t,
+        cause: cause,
+        moved: 0,
+        can: 0,
+        blocks: 0,
+    }
 }
 
 // By the unit, for any cause but 39.

@@ -1,10 +1,14 @@
 // The sense commands: SENSE, SENSE TYPE and READ AND RESET BUFFERED LOG. They move bytes of the unit's own into main storage.
+use crate::refusal::after;
+use crate::refusal::ended;
 use model::ccw::Ccw;
 use model::record::Record;
-use model::state::{Before, Done, State};
-use records::log::{log_reset, no_sense, Log};
-use crate::refusal::{after, ended};
-
+use model::state::Before;
+use model::state::Done;
+use model::state::State;
+use records::log::Log;
+use records::log::log_reset;
+use records::log::no_sense;
 ghost use mathlib.Core.Path.{_≡_};
 ghost use mathlib.Core.List.{List};
 ghost use Prim.Native.Nat.{ℕ, _+_, _≤_};

@@ -1,11 +1,19 @@
 // One command: the channel's tests, the unit's, then the command's own and what it does. `step` is the way in.
-use crate::blocks::{read, read_ipl, write};
-use crate::controls::{clear, define_extent, locate, no_operation};
-use crate::refusal::{program_check, refuse};
-use crate::senses::{read_log, sense, sense_type};
+use crate::blocks::read;
+use crate::blocks::read_ipl;
+use crate::blocks::write;
+use crate::controls::clear;
+use crate::controls::define_extent;
+use crate::controls::locate;
+use crate::controls::no_operation;
+use crate::refusal::program_check;
+use crate::refusal::refuse;
+use crate::senses::read_log;
+use crate::senses::sense;
+use crate::senses::sense_type;
 use model::ccw::Ccw;
-use model::state::{Done, State};
-
+use model::state::Done;
+use model::state::State;
 ghost use mathlib.Core.Path.{_≡_};
 ghost use mathlib.Core.Bool.{true, false, not, _&&_};
 ghost use mathlib.Core.List.{List, [], _∷_};
