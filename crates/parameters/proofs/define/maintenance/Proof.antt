@@ -3,12 +3,11 @@ use Rattle.parameters.proofs.Tests.{mask-maintenance}
 use borrow.Author.Needs.{needs}
 use Rattle.parameters.proofs.define.maintenance.Statement.{statement}
 use Rattle.parameters.proofs.define.maintenance.Tie as tie
-use Rattle.parameters.proofs.define.maintenance.Reads as reads
-use Rattle.parameters.proofs.define.maintenance.Lts as lts
 
--- src/parameters.rt:59:1
 returns : tie.Need-returns
 returns c = sym (mask-maintenance (c .args .mask) (search needs))
 
 pub maintenance-spec : {M : Type 1} → statement M
-maintenance-spec = tie.close (tie.spec returns)
+maintenance-spec = tie.close
+    (tie.spec
+    returns)

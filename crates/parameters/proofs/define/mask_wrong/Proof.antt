@@ -3,20 +3,19 @@ use Rattle.parameters.proofs.Tests.{mask-ten, mask-spare}
 use borrow.Author.Needs.{needs}
 use Rattle.parameters.proofs.define.mask_wrong.Statement.{statement}
 use Rattle.parameters.proofs.define.mask_wrong.Tie as tie
-use Rattle.parameters.proofs.define.mask_wrong.Reads as reads
-use Rattle.parameters.proofs.define.mask_wrong.Lts as lts
 
--- src/parameters.rt:50:9
 returns : tie.Need-returns
 returns c = let h = mask-ten (c .before .args .mask) (search needs) in simp (h, eq-eqb _ _ (c .if1 .taken))
 
--- src/parameters.rt:54:9
 returns-2 : tie.Need-returns-2
 returns-2 c = let h = mask-ten (c .before .before .args .mask) (search needs) in let k = mask-spare (c .before .before .args .mask) (search needs) in simp (h, k, ne-eqb _ _ (c .before .if1 .left), ne-eqb _ _ (c .if2 .taken))
 
--- src/parameters.rt:45:1
 returns-3 : tie.Need-returns-3
 returns-3 c = let h = mask-ten (c .before .before .args .mask) (search needs) in let k = mask-spare (c .before .before .args .mask) (search needs) in simp (h, k, ne-eqb _ _ (c .before .if1 .left), eq-eqb _ _ (c .if2 .left))
 
 pub mask-wrong-spec : {M : Type 1} → statement M
-mask-wrong-spec = tie.close (tie.spec returns returns-2 returns-3)
+mask-wrong-spec = tie.close
+    (tie.spec
+    returns
+    returns-2
+    returns-3)

@@ -1,21 +1,19 @@
 use borrow.Author.Tests.{eq-eqb, ne-eqb}
 use mathlib.Core.Bool.{or-false}
 use Rattle.model.specs.Rules.{oneOf}
-use borrow.Author.Needs.{needs}
 use Rattle.parameters.proofs.define.size_wrong.Statement.{statement}
 use Rattle.parameters.proofs.define.size_wrong.Tie as tie
-use Rattle.parameters.proofs.define.size_wrong.Reads as reads
-use Rattle.parameters.proofs.define.size_wrong.Lts as lts
 
--- src/parameters.rt:70:9
 returns : tie.Need-returns
 unfolding oneOf
 returns c = simp (eq-eqb _ _ (c .if1 .taken))
 
--- src/parameters.rt:66:1
 returns-2 : tie.Need-returns-2
 unfolding oneOf
 returns-2 c = simp (ne-eqb _ _ (c .if1 .left), or-false)
 
 pub size-wrong-spec : {M : Type 1} → statement M
-size-wrong-spec = tie.close (tie.spec returns returns-2)
+size-wrong-spec = tie.close
+    (tie.spec
+    returns
+    returns-2)

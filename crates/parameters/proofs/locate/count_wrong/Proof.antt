@@ -1,22 +1,20 @@
 use Rattle.parameters.proofs.Tests.{count-last}
-use borrow.Author.Tests.{eq-eqb, ne-eqb, lt-ltb, le-ltb}
-use borrow.Author.Needs.{needs}
+use borrow.Author.Tests.{eq-eqb, ne-eqb}
 use Rattle.parameters.proofs.locate.count_wrong.Statement.{statement}
 use Rattle.parameters.proofs.locate.count_wrong.Tie as tie
-use Rattle.parameters.proofs.locate.count_wrong.Reads as reads
-use Rattle.parameters.proofs.locate.count_wrong.Lts as lts
 
--- src/parameters.rt:190:9
 returns : tie.Need-returns
 returns c = simp (eq-eqb _ _ (c .if1 .taken))
 
--- src/parameters.rt:193:9
 returns-2 : tie.Need-returns-2
 returns-2 c = simp (ne-eqb _ _ (c .before .before .if1 .left), ne-eqb _ _ (c .if2 .taken))
 
--- src/parameters.rt:186:1
 returns-3 : tie.Need-returns-3
 returns-3 c = count-last _ _ (c .before .before .before .if1 .left) (c .before .if2 .left)
 
 pub count-wrong-spec : {M : Type 1} → statement M
-count-wrong-spec = tie.close (tie.spec returns returns-2 returns-3)
+count-wrong-spec = tie.close
+    (tie.spec
+    returns
+    returns-2
+    returns-3)

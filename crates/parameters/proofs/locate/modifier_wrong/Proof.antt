@@ -3,12 +3,11 @@ use Rattle.parameters.proofs.Tests.{modifier-reserved}
 use borrow.Author.Needs.{needs}
 use Rattle.parameters.proofs.locate.modifier_wrong.Statement.{statement}
 use Rattle.parameters.proofs.locate.modifier_wrong.Tie as tie
-use Rattle.parameters.proofs.locate.modifier_wrong.Reads as reads
-use Rattle.parameters.proofs.locate.modifier_wrong.Lts as lts
 
--- src/parameters.rt:155:1
 returns : tie.Need-returns
 returns c = sym (modifier-reserved (c .args .byte) (search needs))
 
 pub modifier-wrong-spec : {M : Type 1} → statement M
-modifier-wrong-spec = tie.close (tie.spec returns)
+modifier-wrong-spec = tie.close
+    (tie.spec
+    returns)

@@ -1,21 +1,19 @@
 use borrow.Author.Tests.{eq-eqb, ne-eqb}
 use mathlib.Core.Bool.{or-false}
 use Rattle.model.specs.Rules.{oneOf}
-use borrow.Author.Needs.{needs}
 use Rattle.unit.proofs.blocks.is_write.Statement.{statement}
 use Rattle.unit.proofs.blocks.is_write.Tie as tie
-use Rattle.unit.proofs.blocks.is_write.Reads as reads
-use Rattle.unit.proofs.blocks.is_write.Lts as lts
 
--- src/blocks.rt:62:9
 returns : tie.Need-returns
 unfolding oneOf
 returns c = simp (eq-eqb _ _ (c .if1 .taken))
 
--- src/blocks.rt:58:1
 returns-2 : tie.Need-returns-2
 unfolding oneOf
 returns-2 c = simp (ne-eqb _ _ (c .if1 .left), or-false)
 
 pub is-write-spec : {M : Type 1} → statement M
-is-write-spec = tie.close (tie.spec returns returns-2)
+is-write-spec = tie.close
+    (tie.spec
+    returns
+    returns-2)

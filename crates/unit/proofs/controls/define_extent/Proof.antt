@@ -1,4 +1,4 @@
-use mathlib.Core.Path.{_≡_, refl, sym, ap, _∙_}
+use mathlib.Core.Path.{refl, sym, ap, _∙_}
 use Prim.Native.Nat.{ℕ}
 use mathlib.Core.List.{List}
 use native.Mathlib.Omega.{arith}
@@ -12,52 +12,23 @@ use Rattle.unit.proofs.Deciding.{refused-out, define-out}
 use borrow.Author.Needs.{needs}
 use Rattle.unit.proofs.controls.define_extent.Statement.{statement}
 use Rattle.unit.proofs.controls.define_extent.Tie as tie
-use Rattle.unit.proofs.controls.define_extent.Reads as reads
-use Rattle.unit.proofs.controls.define_extent.Lts as lts
-use Rattle.unit.proofs.controls.define_by.Reads as define-by-reads
-use Rattle.unit.proofs.refusal.refuse.Reads as refuse-reads
 
--- src/controls.rt:61:9
 refuse-requires : tie.Need-refuse-requires
 unfolding programCheck oneOf
 refuse-requires c κs = (refl, omega arith, λ e. omega arith)
 
--- src/controls.rt:61:9
 returns : tie.Need-returns
 unfolding defineExtentCauses
 returns c = λ store. refused-out _ _ _ store _ 20 _ _ (first-here _ _ (lt-ltb _ _ (c .before .if1 .taken))) (λ z. omega arith) (c .refuse .ensures _)
 
--- src/controls.rt:64:9
 refuse-requires-2 : tie.Need-refuse-requires-2
 unfolding programCheck oneOf
 refuse-requires-2 c κs = (refl, omega arith, λ e. omega arith)
 
--- src/controls.rt:64:9
 returns-2 : tie.Need-returns-2
 unfolding defineExtentCauses
 returns-2 c = λ store. refused-out _ _ _ store _ 21 _ _ (first-later _ _ (le-ltb _ _ (c .before .before .if1 .left)) ∙ first-here _ _ (c .before .if2 .taken)) (λ z. omega arith) (c .refuse2 .ensures _)
 
--- src/controls.rt:67:15
-add-end : tie.Need-add-end
-add-end c = search needs
-
--- src/controls.rt:68:32
-sub-define-by : tie.Need-sub-define-by
-sub-define-by c = search needs
-
--- src/controls.rt:68:32
-part-define-by-start : tie.Need-part-define-by-start
-part-define-by-start c = search needs
-
--- src/controls.rt:68:32
-part-define-by-end : tie.Need-part-define-by-end
-part-define-by-end c = search needs
-
--- src/controls.rt:68:5
-define-by-requires : tie.Need-define-by-requires
-define-by-requires c κs = search needs
-
--- src/controls.rt:56:1
 returns-3 : tie.Need-returns-3
 unfolding defineExtentCauses fetched
 returns-3 c = λ store. let e = part-lent (c .before .before .before .before .before .before .args .main .now) (c .before .before .before .before .before .before .args .c .address) 16 in define-out (c .before .before .before .before .before .before .args .size) (c .before .before .before .before .before .before .args .blocks) (c .before .before .before .before .before .before .args .c) (c .before .before .before .before .before .before .args .s) (c .before .before .before .before .before .before .args .main .now) store _ _ _ e (first-later _ _ (le-ltb _ _ (c .before .before .before .if1 .left)) ∙ first-later _ _ (c .before .before .if2 .left) ∙ ap (λ (p : List ℕ). firstOf (extentCauses (c .before .before .before .before .before .before .args .size) (c .before .before .before .before .before .before .args .blocks) p)) (sym e)) (c .define-by .ensures _)
@@ -70,9 +41,9 @@ define-extent-spec =
     returns
     refuse-requires-2
     returns-2
-    add-end
-    sub-define-by
-    part-define-by-start
-    part-define-by-end
-    define-by-requires
+    (search needs)  -- add-end
+    (search needs)  -- sub-define-by
+    (search needs)  -- part-define-by-start
+    (search needs)  -- part-define-by-end
+    (search needs)  -- define-by-requires
     returns-3)

@@ -1,4 +1,4 @@
-use mathlib.Core.Path.{_≡_, refl, sym, ap, _∙_}
+use mathlib.Core.Path.{refl}
 use Prim.Native.Nat.{ℕ, _%_}
 use mathlib.Core.List.{[], _∷_}
 use lib.Bits.{bitAnd}
@@ -8,13 +8,12 @@ use Rattle.model.specs.Rules.{oneOf}
 use borrow.Author.Needs.{needs}
 use Rattle.unit.proofs.step.no_command.Statement.{statement}
 use Rattle.unit.proofs.step.no_command.Tie as tie
-use Rattle.unit.proofs.step.no_command.Reads as reads
-use Rattle.unit.proofs.step.no_command.Lts as lts
 
--- src/step.rt:23:1
 returns : tie.Need-returns
 unfolding oneOf
 returns c = same-on-bytes (λ (b : ℕ). eqb (bitAnd b 0x07) 0) (λ (b : ℕ). oneOf (0 ∷ 8 ∷ []) (b % 16)) refl (c .args .command) (search needs)
 
 pub no-command-spec : {M : Type 1} → statement M
-no-command-spec = tie.close (tie.spec returns)
+no-command-spec = tie.close
+    (tie.spec
+    returns)

@@ -1,4 +1,4 @@
-use mathlib.Core.Path.{_≡_, refl, sym, ap, _∙_}
+use mathlib.Core.Path.{refl, sym, ap, _∙_}
 use mathlib.Core.Bool.{not}
 use native.Mathlib.Omega.{arith}
 use Rattle.model.specs.Rules.{oneOf}
@@ -7,34 +7,25 @@ use Rattle.model.proofs.Verdicts.{first-here, first-later, first-none}
 use borrow.Author.Needs.{needs}
 use Rattle.unit.proofs.step.unit_cause.Statement.{statement}
 use Rattle.unit.proofs.step.unit_cause.Tie as tie
-use Rattle.unit.proofs.step.unit_cause.Reads as reads
-use Rattle.unit.proofs.step.unit_cause.Lts as lts
-use Rattle.unit.proofs.step.is_listed.Reads as is-listed-reads
-use Rattle.unit.proofs.step.not_ready.Reads as not-ready-reads
 
--- src/step.rt:98:8
-not-ready-requires : tie.Need-not-ready-requires
-not-ready-requires c κs = search needs
-
--- src/step.rt:99:9
 returns : tie.Need-returns
 unfolding unitCauses programCheck oneOf
 returns c = (sym (first-here _ _ (sym (c .before .not-ready .ensures) ∙ c .if1 .taken)), (refl, omega arith, λ e. omega arith))
 
--- src/step.rt:101:9
-is-listed-requires : tie.Need-is-listed-requires
-is-listed-requires c κs = search needs
-
--- src/step.rt:102:9
 returns-2 : tie.Need-returns-2
 unfolding unitCauses programCheck oneOf
 returns-2 c = (sym (first-later _ _ (sym (c .before .before .before .not-ready .ensures) ∙ c .before .before .if1 .left) ∙ first-here _ _ (ap not (sym (c .before .is-listed .ensures)) ∙ c .if2 .taken)), (refl, omega arith, λ e. omega arith))
 
--- src/step.rt:94:1
 returns-3 : tie.Need-returns-3
 unfolding unitCauses programCheck oneOf
 returns-3 c = (sym (first-later _ _ (sym (c .before .before .before .not-ready .ensures) ∙ c .before .before .if1 .left) ∙ first-later _ _ (ap not (sym (c .before .is-listed .ensures)) ∙ c .if2 .left) ∙ first-none), (refl, omega arith, λ e. omega arith))
 
 pub unit-cause-spec : {M : Type 1} → statement M
 unit-cause-spec =
-    tie.close (tie.spec not-ready-requires returns is-listed-requires returns-2 returns-3)
+    tie.close
+    (tie.spec
+    (search needs)  -- not-ready-requires
+    returns
+    (search needs)  -- is-listed-requires
+    returns-2
+    returns-3)
