@@ -4,10 +4,16 @@ use Rattle.lent.proofs.run_core.Statement.{statement}
 use Rattle.lent.proofs.run_core.Tie as tie
 
 result-of-requires : tie.Need-result-of-requires
-result-of-requires c κs = reached-few (c .before .before .before .before .before .before .before .before .before .before .before .before .before .before .before .args .chain .now) (c .before .before .before .before .before .before .before .before .before .before .before .before .before .before .before .args .storage .now) (c .before .before .before .before .before .before .before .before .before .before .before .before .before .before .before .args .store .now) (c .before .before .before .before .before .before .before .before .before .before .before .before .before .before .before .args .r) (c .before .before .before .before .before .before .before .before .before .before .before .before .before .before .before .args .answers .now) _ (c .before .before .before .before .before .before .before .call .ensures)
+result-of-requires c κs =
+    let args = c .before .before .before .before .before .before .before .before .before .before .before .before .before .before .before .args in
+    let call = c .before .before .before .before .before .before .before .call in
+    reached-few (args .chain .now) (args .storage .now) (args .store .now) (args .r) (args .answers .now) _ (call .ensures)
 
 returns : tie.Need-returns
-returns c = record { is = gives-outcome (c .before .before .before .before .before .before .before .before .before .before .before .before .before .before .before .before .args .r) (c .before .before .before .before .before .before .before .before .before .before .before .before .before .before .before .before .args .chain .now) (c .before .before .before .before .before .before .before .before .before .before .before .before .before .before .before .before .args .storage .now) (c .before .before .before .before .before .before .before .before .before .before .before .before .before .before .before .before .args .store .now) (c .before .before .before .before .before .before .before .before .before .before .before .before .before .before .before .before .args .answers .now) _ _ (c .before .before .before .before .before .before .before .before .call .ensures) (c .result-of .ensures) }
+returns c =
+    let args = c .before .before .before .before .before .before .before .before .before .before .before .before .before .before .before .before .args in
+    let call = c .before .before .before .before .before .before .before .before .call in
+    record { is = gives-outcome (args .r) (args .chain .now) (args .storage .now) (args .store .now) (args .answers .now) _ _ (call .ensures) (c .result-of .ensures) }
 
 pub run-core-spec : {M : Type 1} → statement M
 run-core-spec =

@@ -22,10 +22,19 @@ same-length-3 : tie.Need-same-length-3
 same-length-3 c = omega arith
 
 returns : tie.Need-returns
-returns c = sym (call-refused 512 (c .before .before .before .before .before .before .before .before .before .args .chain .now) (c .before .before .before .before .before .before .before .before .before .args .main .now) (c .before .before .before .before .before .before .before .before .before .args .store .now) (c .before .before .before .before .before .before .before .before .before .args .u) (c .before .before .before .before .before .before .before .before .before .args .answers .now) _ (sym (c .before .call-cause .ensures)) (c .if1 .taken))
+returns c =
+    let args = c .before .before .before .before .before .before .before .before .before .args in
+    let call-cause = c .before .call-cause in
+    sym (call-refused 512 (args .chain .now) (args .main .now) (args .store .now) (args .u) (args .answers .now) _ (sym (call-cause .ensures)) (c .if1 .taken))
 
 run-chain-requires : tie.Need-run-chain-requires
-run-chain-requires c κs = let k = callable 512 (c .before .before .before .before .before .before .before .before .before .before .before .before .before .args .chain .now) (c .before .before .before .before .before .before .before .before .before .before .before .before .before .args .main .now) (c .before .before .before .before .before .before .before .before .before .before .before .before .before .args .store .now) (c .before .before .before .before .before .before .before .before .before .before .before .before .before .args .answers .now) (sym (c .before .before .before .before .before .call-cause .ensures) ∙ c .before .before .before .before .if1 .left) in (k .answered, omega (arith, k .few, k .whole), callable-runnable (c .before .before .before .before .before .before .before .before .before .before .before .before .before .args .chain .now) (c .before .before .before .before .before .before .before .before .before .before .before .before .before .args .main .now) (c .before .before .before .before .before .before .before .before .before .before .before .before .before .args .store .now) (c .before .before .before .before .before .before .before .before .before .before .before .before .before .args .answers .now) k, rw (c .before .before .before .start .ensures) (safe-start _ _))
+run-chain-requires c κs =
+    let args = c .before .before .before .before .before .before .before .before .before .before .before .before .before .args in
+    let call-cause = c .before .before .before .before .before .call-cause in
+    let if1 = c .before .before .before .before .if1 in
+    let start = c .before .before .before .start in
+    let k = callable 512 (args .chain .now) (args .main .now) (args .store .now) (args .answers .now) (sym (call-cause .ensures) ∙ if1 .left) in
+    (k .answered, omega (arith, k .few, k .whole), callable-runnable (args .chain .now) (args .main .now) (args .store .now) (args .answers .now) k, rw (start .ensures) (safe-start _ _))
 
 same-length-4 : tie.Need-same-length-4
 same-length-4 c = omega arith
@@ -37,7 +46,13 @@ same-length-6 : tie.Need-same-length-6
 same-length-6 c = omega arith
 
 returns-2 : tie.Need-returns-2
-returns-2 c = called-run 0 _ _ _ _ _ _ (c .before .before .before .before .before .before .before .before .run-chain .ensures ∙ ap (λ (s : State). run 512 (c .before .before .before .before .before .before .before .before .before .before .before .before .before .before .before .before .before .before .before .before .before .before .args .chain .now) (length (c .before .before .before .before .before .before .before .before .before .before .before .before .before .before .before .before .before .before .before .before .before .before .args .chain .now) / 8) 0 (system s (c .before .before .before .before .before .before .before .before .before .before .before .before .before .before .before .before .before .before .before .before .before .before .args .main .now) (c .before .before .before .before .before .before .before .before .before .before .before .before .before .before .before .before .before .before .before .before .before .before .args .store .now) (c .before .before .before .before .before .before .before .before .before .before .before .before .before .before .before .before .before .before .before .before .before .before .args .answers .now) 0)) (c .before .before .before .before .before .before .before .before .before .before .before .before .start .ensures)) ∙ sym (call-ran 512 (c .before .before .before .before .before .before .before .before .before .before .before .before .before .before .before .before .before .before .before .before .before .before .args .chain .now) (c .before .before .before .before .before .before .before .before .before .before .before .before .before .before .before .before .before .before .before .before .before .before .args .main .now) (c .before .before .before .before .before .before .before .before .before .before .before .before .before .before .before .before .before .before .before .before .before .before .args .store .now) (c .before .before .before .before .before .before .before .before .before .before .before .before .before .before .before .before .before .before .before .before .before .before .args .u) (c .before .before .before .before .before .before .before .before .before .before .before .before .before .before .before .before .before .before .before .before .before .before .args .answers .now) (sym (c .before .before .before .before .before .before .before .before .before .before .before .before .before .before .call-cause .ensures) ∙ c .before .before .before .before .before .before .before .before .before .before .before .before .before .if1 .left))
+returns-2 c =
+    let run-chain = c .before .before .before .before .before .before .before .before .run-chain in
+    let args = c .before .before .before .before .before .before .before .before .before .before .before .before .before .before .before .before .before .before .before .before .before .before .args in
+    let start = c .before .before .before .before .before .before .before .before .before .before .before .before .start in
+    let call-cause = c .before .before .before .before .before .before .before .before .before .before .before .before .before .before .call-cause in
+    let if1 = c .before .before .before .before .before .before .before .before .before .before .before .before .before .if1 in
+    called-run 0 _ _ _ _ _ _ (run-chain .ensures ∙ ap (λ (s : State). run 512 (args .chain .now) (length (args .chain .now) / 8) 0 (system s (args .main .now) (args .store .now) (args .answers .now) 0)) (start .ensures)) ∙ sym (call-ran 512 (args .chain .now) (args .main .now) (args .store .now) (args .u) (args .answers .now) (sym (call-cause .ensures) ∙ if1 .left))
 
 pub call-spec : {M : Type 1} → statement M
 call-spec =

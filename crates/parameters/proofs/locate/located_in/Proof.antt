@@ -7,7 +7,9 @@ use Rattle.parameters.proofs.locate.located_in.Tie as tie
 
 returns : tie.Need-returns
 unfolding locatedIn
-returns c = (rw (and-mask (getD (c .before .before .before .before .args .p .now) 0 0) 4) cc, mask-lt (getD (c .before .before .before .before .args .p .now) 0 0) 4, search needs)
+returns c =
+    let args = c .before .before .before .before .args in
+    (rw (and-mask (getD (args .p .now) 0 0) 4) cc, mask-lt (getD (args .p .now) 0 0) 4, search needs)
 
 pub located-in-spec : {M : Type 1} → statement M
 located-in-spec = tie.close

@@ -9,7 +9,11 @@ use Rattle.parameters.proofs.locate.mask_forbids.Tie as tie
 
 returns : tie.Need-returns
 unfolding forbids oneOf
-returns c = rw (c .before .before .wide .ensures .0, c .before .wide2 .ensures .0) (forbidden-at _ refl (c .before .before .before .args .mask / 64) (c .before .before .before .args .operation) (search needs) (search needs))
+returns c =
+    let wide = c .before .before .wide in
+    let wide2 = c .before .wide2 in
+    let args = c .before .before .before .args in
+    rw (wide .ensures .0, wide2 .ensures .0) (forbidden-at _ refl (args .mask / 64) (args .operation) (search needs) (search needs))
 
 pub mask-forbids-spec : {M : Type 1} → statement M
 mask-forbids-spec =

@@ -12,19 +12,43 @@ returns c = sym (first-here _ _ (sym (c .before .outside-extent .ensures) ∙ c 
 
 returns-2 : tie.Need-returns-2
 unfolding permissionCauses
-returns-2 c = sym (first-later _ _ (sym (c .before .before .before .outside-extent .ensures) ∙ c .before .before .if1 .left) ∙ first-here _ _ (sym (c .before .mask-forbids .ensures) ∙ c .if2 .taken))
+returns-2 c =
+    let outside-extent = c .before .before .before .outside-extent in
+    let if1 = c .before .before .if1 in
+    let mask-forbids = c .before .mask-forbids in
+    sym (first-later _ _ (sym (outside-extent .ensures) ∙ if1 .left) ∙ first-here _ _ (sym (mask-forbids .ensures) ∙ c .if2 .taken))
 
 returns-3 : tie.Need-returns-3
 unfolding permissionCauses
-returns-3 c = sym (first-later _ _ (sym (c .before .before .before .before .before .outside-extent .ensures) ∙ c .before .before .before .before .if1 .left) ∙ first-later _ _ (sym (c .before .before .before .mask-forbids .ensures) ∙ c .before .before .if2 .left) ∙ first-here _ _ (sym (c .before .write-inhibited .ensures) ∙ c .if3 .taken))
+returns-3 c =
+    let outside-extent = c .before .before .before .before .before .outside-extent in
+    let if1 = c .before .before .before .before .if1 in
+    let mask-forbids = c .before .before .before .mask-forbids in
+    let if2 = c .before .before .if2 in
+    let write-inhibited = c .before .write-inhibited in
+    sym (first-later _ _ (sym (outside-extent .ensures) ∙ if1 .left) ∙ first-later _ _ (sym (mask-forbids .ensures) ∙ if2 .left) ∙ first-here _ _ (sym (write-inhibited .ensures) ∙ c .if3 .taken))
 
 returns-4 : tie.Need-returns-4
 unfolding permissionCauses
-returns-4 c = sym (first-later _ _ (sym (c .before .before .before .before .before .before .before .outside-extent .ensures) ∙ c .before .before .before .before .before .before .if1 .left) ∙ first-later _ _ (sym (c .before .before .before .before .before .mask-forbids .ensures) ∙ c .before .before .before .before .if2 .left) ∙ first-later _ _ (sym (c .before .before .before .write-inhibited .ensures) ∙ c .before .before .if3 .left) ∙ first-here _ _ (eq-eqb _ _ (c .if4 .taken)))
+returns-4 c =
+    let outside-extent = c .before .before .before .before .before .before .before .outside-extent in
+    let if1 = c .before .before .before .before .before .before .if1 in
+    let mask-forbids = c .before .before .before .before .before .mask-forbids in
+    let if2 = c .before .before .before .before .if2 in
+    let write-inhibited = c .before .before .before .write-inhibited in
+    let if3 = c .before .before .if3 in
+    sym (first-later _ _ (sym (outside-extent .ensures) ∙ if1 .left) ∙ first-later _ _ (sym (mask-forbids .ensures) ∙ if2 .left) ∙ first-later _ _ (sym (write-inhibited .ensures) ∙ if3 .left) ∙ first-here _ _ (eq-eqb _ _ (c .if4 .taken)))
 
 returns-5 : tie.Need-returns-5
 unfolding permissionCauses
-returns-5 c = sym (first-later _ _ (sym (c .before .before .before .before .before .before .before .outside-extent .ensures) ∙ c .before .before .before .before .before .before .if1 .left) ∙ first-later _ _ (sym (c .before .before .before .before .before .mask-forbids .ensures) ∙ c .before .before .before .before .if2 .left) ∙ first-later _ _ (sym (c .before .before .before .write-inhibited .ensures) ∙ c .before .before .if3 .left) ∙ first-later _ _ (ne-eqb _ _ (c .if4 .left)) ∙ first-none)
+returns-5 c =
+    let outside-extent = c .before .before .before .before .before .before .before .outside-extent in
+    let if1 = c .before .before .before .before .before .before .if1 in
+    let mask-forbids = c .before .before .before .before .before .mask-forbids in
+    let if2 = c .before .before .before .before .if2 in
+    let write-inhibited = c .before .before .before .write-inhibited in
+    let if3 = c .before .before .if3 in
+    sym (first-later _ _ (sym (outside-extent .ensures) ∙ if1 .left) ∙ first-later _ _ (sym (mask-forbids .ensures) ∙ if2 .left) ∙ first-later _ _ (sym (write-inhibited .ensures) ∙ if3 .left) ∙ first-later _ _ (ne-eqb _ _ (c .if4 .left)) ∙ first-none)
 
 pub permit-spec : {M : Type 1} → statement M
 permit-spec =

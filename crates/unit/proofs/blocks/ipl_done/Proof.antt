@@ -5,7 +5,13 @@ use Rattle.unit.proofs.blocks.ipl_done.Tie as tie
 
 returns : tie.Need-returns
 unfolding iplDone
-returns c = rw (c .ended .ensures, c .before .extent-set .ensures, c .before .before .whole-device .ensures, c .before .before .before .movement-counted .ensures, c .before .before .before .before .read-counted .ensures, c .before .before .before .before .before .no-sense .ensures)
+returns c =
+    let extent-set = c .before .extent-set in
+    let whole-device = c .before .before .whole-device in
+    let movement-counted = c .before .before .before .movement-counted in
+    let read-counted = c .before .before .before .before .read-counted in
+    let no-sense = c .before .before .before .before .before .no-sense in
+    rw (c .ended .ensures, extent-set .ensures, whole-device .ensures, movement-counted .ensures, read-counted .ensures, no-sense .ensures)
 
 pub ipl-done-spec : {M : Type 1} → statement M
 ipl-done-spec =

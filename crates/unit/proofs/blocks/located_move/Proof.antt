@@ -6,10 +6,18 @@ use Rattle.unit.proofs.blocks.located_move.Statement.{statement}
 use Rattle.unit.proofs.blocks.located_move.Tie as tie
 
 address-requires : tie.Need-address-requires
-address-requires c κs = let p = c .before .before .before .pre in placed (c .before .before .before .args .size) _ _ _ (p .0) (p .1) (p .2) .from-first
+address-requires c κs =
+    let pre = c .before .before .before .pre in
+    let args = c .before .before .before .args in
+    let p = pre in
+    placed (args .size) _ _ _ (p .0) (p .1) (p .2) .from-first
 
 mul-can : tie.Need-mul-can
-mul-can c = let p = c .before .before .before .before .before .pre in record { fits = omega (arith, placed (c .before .before .before .before .before .args .size) _ _ _ (p .0) (p .1) (p .2) .product) }
+mul-can c =
+    let pre = c .before .before .before .before .before .pre in
+    let args = c .before .before .before .before .before .args in
+    let p = pre in
+    record { fits = omega (arith, placed (args .size) _ _ _ (p .0) (p .1) (p .2) .product) }
 
 returns : tie.Need-returns
 returns c = (c .before .before .address .ensures, refl, c .least .ensures)

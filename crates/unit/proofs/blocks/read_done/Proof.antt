@@ -6,11 +6,20 @@ use Rattle.unit.proofs.blocks.read_done.Statement.{statement}
 use Rattle.unit.proofs.blocks.read_done.Tie as tie
 
 read-counted-requires : tie.Need-read-counted-requires
-read-counted-requires c κs = rw (c .before .begun .ensures) (omega (arith, begun-least (c .before .before .args .size) (c .before .before .args .m .n) (c .before .before .pre .0)))
+read-counted-requires c κs =
+    let begun = c .before .begun in
+    let args = c .before .before .args in
+    let pre = c .before .before .pre in
+    rw (begun .ensures) (omega (arith, begun-least (args .size) (args .m .n) (pre .0)))
 
 returns : tie.Need-returns
 unfolding readDone
-returns c = rw (c .ended .ensures, c .before .after .ensures, c .before .before .read-counted .ensures, c .before .before .before .no-sense .ensures, c .before .before .before .before .begun .ensures)
+returns c =
+    let after = c .before .after in
+    let read-counted = c .before .before .read-counted in
+    let no-sense = c .before .before .before .no-sense in
+    let begun = c .before .before .before .before .begun in
+    rw (c .ended .ensures, after .ensures, read-counted .ensures, no-sense .ensures, begun .ensures)
 
 pub read-done-spec : {M : Type 1} → statement M
 read-done-spec =

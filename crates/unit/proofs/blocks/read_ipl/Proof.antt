@@ -18,18 +18,36 @@ refuse-requires c κs = (refl, omega arith, λ e. omega arith)
 
 returns : tie.Need-returns
 unfolding readIplCauses
-returns c = refused-out _ _ _ _ _ 40 _ _ (first-here _ _ (ap not (sym (c .before .before .none-or-ipl .ensures)) ∙ c .before .if1 .taken)) (λ z. omega arith) (c .refuse .ensures _)
+returns c =
+    let none-or-ipl = c .before .before .none-or-ipl in
+    let if1 = c .before .if1 in
+    refused-out _ _ _ _ _ 40 _ _ (first-here _ _ (ap not (sym (none-or-ipl .ensures)) ∙ if1 .taken)) (λ z. omega arith) (c .refuse .ensures _)
 
 blocks-to-requires : tie.Need-blocks-to-requires
-blocks-to-requires c κs = let n = c .before .least .ensures in let r = c .before .before .before .before .before .before .pre .2 in (in-store (c .before .before .before .before .before .before .args .size) (c .before .before .before .before .before .before .args .store .now) 1 (c .before .before .before .before .before .before .pre .1), omega (arith, n), omega (arith, n, r))
+blocks-to-requires c κs =
+    let least = c .before .least in
+    let pre = c .before .before .before .before .before .before .pre in
+    let args = c .before .before .before .before .before .before .args in
+    let n = least .ensures in
+    let r = pre .2 in
+    (in-store (args .size) (args .store .now) 1 (pre .1), omega (arith, n), omega (arith, n, r))
 
 ipl-done-requires : tie.Need-ipl-done-requires
 unfolding blockCount
-ipl-done-requires c κs = (c .before .before .before .before .before .before .before .before .before .pre .1, few-blocks (c .before .before .before .before .before .before .before .before .before .args .size) (c .before .before .before .before .before .before .before .before .before .args .c) (c .before .before .before .before .before .before .before .before .before .args .store .now) (c .before .before .before .before .before .before .before .before .before .pre .0))
+ipl-done-requires c κs =
+    let pre = c .before .before .before .before .before .before .before .before .before .pre in
+    let args = c .before .before .before .before .before .before .before .before .before .args in
+    (pre .1, few-blocks (args .size) (args .c) (args .store .now) (pre .0))
 
 returns-2 : tie.Need-returns-2
 unfolding readIplCauses blockCount
-returns-2 c = accepted-out _ _ _ _ _ _ _ (first-later _ _ (ap not (sym (c .before .before .before .before .before .before .before .none-or-ipl .ensures)) ∙ c .before .before .before .before .before .before .if1 .left) ∙ first-none) (ipl-moved (c .before .before .before .before .before .before .before .before .before .before .args .size) (c .before .before .before .before .before .before .before .before .before .before .args .c) (c .before .before .before .before .before .before .before .before .before .before .args .s) (c .before .before .before .before .before .before .before .before .before .before .args .main .now) _ (c .before .before .before .before .before .before .before .before .before .before .args .store .now) _ _ (c .before .before .before .before .before .least .ensures) (c .before .before .before .blocks-to .ensures) (c .ipl-done .ensures))
+returns-2 c =
+    let none-or-ipl = c .before .before .before .before .before .before .before .none-or-ipl in
+    let if1 = c .before .before .before .before .before .before .if1 in
+    let args = c .before .before .before .before .before .before .before .before .before .before .args in
+    let least = c .before .before .before .before .before .least in
+    let blocks-to = c .before .before .before .blocks-to in
+    accepted-out _ _ _ _ _ _ _ (first-later _ _ (ap not (sym (none-or-ipl .ensures)) ∙ if1 .left) ∙ first-none) (ipl-moved (args .size) (args .c) (args .s) (args .main .now) _ (args .store .now) _ _ (least .ensures) (blocks-to .ensures) (c .ipl-done .ensures))
 
 pub read-ipl-spec : {M : Type 1} → statement M
 read-ipl-spec =

@@ -5,7 +5,12 @@ use Rattle.unit.proofs.blocks.write_done.Tie as tie
 
 returns : tie.Need-returns
 unfolding writeDone
-returns c = rw (c .ended .ensures, c .before .before .after .ensures, c .before .before .before .written .ensures, c .before .before .before .before .no-sense .ensures, c .before .begun .ensures)
+returns c =
+    let after = c .before .before .after in
+    let written = c .before .before .before .written in
+    let no-sense = c .before .before .before .before .no-sense in
+    let begun = c .before .begun in
+    rw (c .ended .ensures, after .ensures, written .ensures, no-sense .ensures, begun .ensures)
 
 pub write-done-spec : {M : Type 1} → statement M
 write-done-spec =

@@ -37,7 +37,12 @@ same-length c = search needs
 -- src/senses.rt:46:1
 returns : tie.Need-returns
 unfolding readLog
-returns c = λ store. let long : length (c .before .before .before .before .before .before .before .of .result .0) ≡ 24 = ap length (c .before .before .before .before .before .before .before .of .ensures) ∙ log-length _ (arrays (c .before .before .before .before .before .before .before .before .before .before)) in c .before .before .send .ensures store ∙ rw (long, c .before .before .before .before .before .before .before .of .ensures, c .before .before .before .log-reset .ensures)
+returns c =
+    let of = c .before .before .before .before .before .before .before .of in
+    let before = c .before .before .before .before .before .before .before .before .before .before in
+    let send = c .before .before .send in
+    let log-reset = c .before .before .before .log-reset in
+    λ store. let long : length (of .result .0) ≡ 24 = ap length (of .ensures) ∙ log-length _ (arrays before) in send .ensures store ∙ rw (long, of .ensures, log-reset .ensures)
 
 pub read-log-spec : {M : Type 1} → statement M
 read-log-spec =

@@ -6,7 +6,11 @@ use Rattle.unit.proofs.senses.send.Tie as tie
 
 returns : tie.Need-returns
 unfolding sent delivered
-returns c = λ store. rw (c .ended .ensures, c .before .after .ensures, c .before .before .before .before .put-at .ensures, c .before .before .before .before .before .before .least .ensures)
+returns c =
+    let after = c .before .after in
+    let put-at = c .before .before .before .before .put-at in
+    let least = c .before .before .before .before .before .before .least in
+    λ store. rw (c .ended .ensures, after .ensures, put-at .ensures, least .ensures)
 
 pub send-spec : {M : Type 1} → statement M
 send-spec =

@@ -31,7 +31,11 @@ same-length c = search needs
 -- src/senses.rt:25:1
 returns : tie.Need-returns
 unfolding sense
-returns c = λ store. c .before .before .send .ensures store ∙ rw (long (c .before .before .before .before .before .before .before .before .before), c .before .before .before .no-sense .ensures)
+returns c =
+    let send = c .before .before .send in
+    let before = c .before .before .before .before .before .before .before .before .before in
+    let no-sense = c .before .before .before .no-sense in
+    λ store. send .ensures store ∙ rw (long before, no-sense .ensures)
 
 pub sense-spec : {M : Type 1} → statement M
 sense-spec =

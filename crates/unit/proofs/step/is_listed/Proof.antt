@@ -41,7 +41,9 @@ returns-9 c = rw (c .match .keys9)
 
 returns-10 : tie.Need-returns-10
 unfolding oneOf
-returns-10 c = let m = c .match .rest in rw (ne-eqb _ _ (m .0 .0 .0 .0 .0 .0 .0 .0 .1), ne-eqb _ _ (m .0 .0 .0 .0 .0 .0 .0 .1), ne-eqb _ _ (m .0 .0 .0 .0 .0 .0 .1), ne-eqb _ _ (m .0 .0 .0 .0 .0 .1), ne-eqb _ _ (m .0 .0 .0 .0 .1), ne-eqb _ _ (m .0 .0 .0 .1), ne-eqb _ _ (m .0 .0 .1), ne-eqb _ _ (m .0 .1), ne-eqb _ _ (m .1))
+returns-10 c =
+    let m = c .match .rest in
+    rw (ne-eqb _ _ (m .0 .0 .0 .0 .0 .0 .0 .0 .1), ne-eqb _ _ (m .0 .0 .0 .0 .0 .0 .0 .1), ne-eqb _ _ (m .0 .0 .0 .0 .0 .0 .1), ne-eqb _ _ (m .0 .0 .0 .0 .0 .1), ne-eqb _ _ (m .0 .0 .0 .0 .1), ne-eqb _ _ (m .0 .0 .0 .1), ne-eqb _ _ (m .0 .0 .1), ne-eqb _ _ (m .0 .1), ne-eqb _ _ (m .1))
 
 pub is-listed-spec : {M : Type 1} → statement M
 is-listed-spec =

@@ -9,19 +9,41 @@ program-check-requires : tie.Need-program-check-requires
 program-check-requires c κs = c .before .channel-cause .ensures .1 (c .if1 .taken)
 
 returns : tie.Need-returns
-returns c = step-stopped (c .before .before .before .before .before .before .args .size) (c .before .before .before .before .before .before .args .c) (c .before .before .before .before .before .before .args .s) (c .before .before .before .before .before .before .args .main .now) (c .before .before .before .before .before .before .args .store .now) _ _ (early-channel (c .before .before .before .before .before .before .args .size) (c .before .before .before .before .before .before .args .c) (c .before .before .before .before .before .before .args .s) (c .before .before .before .before .before .before .args .main .now) (c .before .before .before .before .before .before .args .store .now) _ (sym (c .before .before .channel-cause .ensures .0)) (c .before .if1 .taken)) (c .before .if1 .taken) (c .program-check .ensures _)
+returns c =
+    let args = c .before .before .before .before .before .before .args in
+    let channel-cause = c .before .before .channel-cause in
+    let if1 = c .before .if1 in
+    step-stopped (args .size) (args .c) (args .s) (args .main .now) (args .store .now) _ _ (early-channel (args .size) (args .c) (args .s) (args .main .now) (args .store .now) _ (sym (channel-cause .ensures .0)) (if1 .taken)) (if1 .taken) (c .program-check .ensures _)
 
 refuse-requires : tie.Need-refuse-requires
 refuse-requires c κs = c .before .unit-cause .ensures .1
 
 returns-2 : tie.Need-returns-2
-returns-2 c = step-stopped (c .before .before .before .before .before .before .before .before .args .size) (c .before .before .before .before .before .before .before .before .args .c) (c .before .before .before .before .before .before .before .before .args .s) (c .before .before .before .before .before .before .before .before .args .main .now) (c .before .before .before .before .before .before .before .before .args .store .now) _ _ (early-unit (c .before .before .before .before .before .before .before .before .args .size) (c .before .before .before .before .before .before .before .before .args .c) (c .before .before .before .before .before .before .before .before .args .s) (c .before .before .before .before .before .before .before .before .args .main .now) (c .before .before .before .before .before .before .before .before .args .store .now) _ (sym (c .before .before .before .before .channel-cause .ensures .0) ∙ c .before .before .before .if1 .left) (sym (c .before .before .unit-cause .ensures .0))) (c .before .if2 .taken) (c .refuse .ensures _)
+returns-2 c =
+    let args = c .before .before .before .before .before .before .before .before .args in
+    let channel-cause = c .before .before .before .before .channel-cause in
+    let if1 = c .before .before .before .if1 in
+    let unit-cause = c .before .before .unit-cause in
+    let if2 = c .before .if2 in
+    step-stopped (args .size) (args .c) (args .s) (args .main .now) (args .store .now) _ _ (early-unit (args .size) (args .c) (args .s) (args .main .now) (args .store .now) _ (sym (channel-cause .ensures .0) ∙ if1 .left) (sym (unit-cause .ensures .0))) (if2 .taken) (c .refuse .ensures _)
 
 perform-requires : tie.Need-perform-requires
-perform-requires c κs = (c .before .before .before .before .before .before .before .before .before .pre .0, c .before .before .before .before .before .before .before .before .before .pre .2, c .before .before .before .before .before .before .before .before .before .pre .3, channel-room (c .before .before .before .before .before .before .before .before .before .args .size) (c .before .before .before .before .before .before .before .before .before .args .c) (c .before .before .before .before .before .before .before .before .before .args .s) (c .before .before .before .before .before .before .before .before .before .args .main .now) (c .before .before .before .before .before .before .before .before .before .args .store .now) (sym (c .before .before .before .before .before .channel-cause .ensures .0) ∙ c .before .before .before .before .if1 .left))
+perform-requires c κs =
+    let pre = c .before .before .before .before .before .before .before .before .before .pre in
+    let args = c .before .before .before .before .before .before .before .before .before .args in
+    let channel-cause = c .before .before .before .before .before .channel-cause in
+    let if1 = c .before .before .before .before .if1 in
+    (pre .0, pre .2, pre .3, channel-room (args .size) (args .c) (args .s) (args .main .now) (args .store .now) (sym (channel-cause .ensures .0) ∙ if1 .left))
 
 returns-3 : tie.Need-returns-3
-returns-3 c = c .before .before .before .before .perform .ensures ∙ sym (step-own (c .before .before .before .before .before .before .before .before .before .before .before .before .before .before .args .size) (c .before .before .before .before .before .before .before .before .before .before .before .before .before .before .args .c) (c .before .before .before .before .before .before .before .before .before .before .before .before .before .before .args .s) (c .before .before .before .before .before .before .before .before .before .before .before .before .before .before .args .main .now) (c .before .before .before .before .before .before .before .before .before .before .before .before .before .before .args .store .now) (early-unit (c .before .before .before .before .before .before .before .before .before .before .before .before .before .before .args .size) (c .before .before .before .before .before .before .before .before .before .before .before .before .before .before .args .c) (c .before .before .before .before .before .before .before .before .before .before .before .before .before .before .args .s) (c .before .before .before .before .before .before .before .before .before .before .before .before .before .before .args .main .now) (c .before .before .before .before .before .before .before .before .before .before .before .before .before .before .args .store .now) 0 (sym (c .before .before .before .before .before .before .before .before .before .before .channel-cause .ensures .0) ∙ c .before .before .before .before .before .before .before .before .before .if1 .left) (sym (c .before .before .before .before .before .before .before .before .unit-cause .ensures .0) ∙ c .before .before .before .before .before .before .before .if2 .left)))
+returns-3 c =
+    let perform = c .before .before .before .before .perform in
+    let args = c .before .before .before .before .before .before .before .before .before .before .before .before .before .before .args in
+    let channel-cause = c .before .before .before .before .before .before .before .before .before .before .channel-cause in
+    let if1 = c .before .before .before .before .before .before .before .before .before .if1 in
+    let unit-cause = c .before .before .before .before .before .before .before .before .unit-cause in
+    let if2 = c .before .before .before .before .before .before .before .if2 in
+    perform .ensures ∙ sym (step-own (args .size) (args .c) (args .s) (args .main .now) (args .store .now) (early-unit (args .size) (args .c) (args .s) (args .main .now) (args .store .now) 0 (sym (channel-cause .ensures .0) ∙ if1 .left) (sym (unit-cause .ensures .0) ∙ if2 .left)))
 
 pub step-spec : {M : Type 1} → statement M
 step-spec =

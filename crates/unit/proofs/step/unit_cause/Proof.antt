@@ -14,11 +14,19 @@ returns c = (sym (first-here _ _ (sym (c .before .not-ready .ensures) ∙ c .if1
 
 returns-2 : tie.Need-returns-2
 unfolding unitCauses programCheck oneOf
-returns-2 c = (sym (first-later _ _ (sym (c .before .before .before .not-ready .ensures) ∙ c .before .before .if1 .left) ∙ first-here _ _ (ap not (sym (c .before .is-listed .ensures)) ∙ c .if2 .taken)), (refl, omega arith, λ e. omega arith))
+returns-2 c =
+    let not-ready = c .before .before .before .not-ready in
+    let if1 = c .before .before .if1 in
+    let is-listed = c .before .is-listed in
+    (sym (first-later _ _ (sym (not-ready .ensures) ∙ if1 .left) ∙ first-here _ _ (ap not (sym (is-listed .ensures)) ∙ c .if2 .taken)), (refl, omega arith, λ e. omega arith))
 
 returns-3 : tie.Need-returns-3
 unfolding unitCauses programCheck oneOf
-returns-3 c = (sym (first-later _ _ (sym (c .before .before .before .not-ready .ensures) ∙ c .before .before .if1 .left) ∙ first-later _ _ (ap not (sym (c .before .is-listed .ensures)) ∙ c .if2 .left) ∙ first-none), (refl, omega arith, λ e. omega arith))
+returns-3 c =
+    let not-ready = c .before .before .before .not-ready in
+    let if1 = c .before .before .if1 in
+    let is-listed = c .before .is-listed in
+    (sym (first-later _ _ (sym (not-ready .ensures) ∙ if1 .left) ∙ first-later _ _ (ap not (sym (is-listed .ensures)) ∙ c .if2 .left) ∙ first-none), (refl, omega arith, λ e. omega arith))
 
 pub unit-cause-spec : {M : Type 1} → statement M
 unit-cause-spec =
