@@ -1,3 +1,4 @@
+-- `chain::call::call` meets its contract. Refused: `call-refused`. Else the tests leave a device that a chain may run on (`callable-runnable`), and the run from a fresh state is the call (`call-ran`). Assumes nothing.
 use mathlib.Core.Path.{sym, ap, _∙_}
 use Prim.Native.Nat.{_/_}
 use lib.ListN.{length}

@@ -1,3 +1,4 @@
+-- `chain::call::start` meets its contract. Assumes nothing.
 use mathlib.Core.Path.{refl}
 use Rattle.model.specs.Chain.{start}
 use Rattle.chain.proofs.call.start.Statement.{statement}

@@ -1,3 +1,4 @@
+-- `chain::run::one_turn` meets its contract. The CCW, the step and the answer are those of `next` (`turned`), and "go on" is `more` (`turned-go`). Assumes nothing.
 use Rattle.chain.proofs.Runs.{turned, turned-go}
 use borrow.Author.Needs.{needs}
 use Rattle.chain.proofs.run.one_turn.Statement.{statement}

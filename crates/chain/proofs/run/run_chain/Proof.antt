@@ -1,3 +1,4 @@
+-- `chain::run::run_chain` meets its contract. Invariant `Underway`: lengths kept, the state safe, and what is still to run from here gives the whole run. Measure: the commands left. Assumes nothing.
 use mathlib.Core.Path.{refl, sym, _∙_}
 use Prim.Native.Nat.{_-_}
 use native.Mathlib.Omega.{arith}

@@ -1,3 +1,4 @@
+-- `parameters::define::define_parameters` meets its contract. Each test is one line of `extentCauses`, in its order: a return takes the line whose test held, past those that did not. Assumes nothing.
 use borrow.Author.Tests.{lt-ltb, le-ltb}
 use Rattle.model.specs.Rules.{pick, firstOf}
 use Rattle.model.specs.Parameters.{reservedIn, sizeIn}

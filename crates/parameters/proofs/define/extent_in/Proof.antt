@@ -1,3 +1,4 @@
+-- `parameters::define::extent_in` meets its contract. Assumes nothing.
 use Rattle.model.specs.Parameters.{extentIn}
 use borrow.Author.Needs.{needs}
 use Rattle.parameters.proofs.define.extent_in.Statement.{statement}

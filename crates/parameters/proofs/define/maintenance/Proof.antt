@@ -1,3 +1,4 @@
+-- `parameters::define::maintenance` meets its contract. Assumes nothing.
 use mathlib.Core.Path.{sym}
 use Rattle.parameters.proofs.Tests.{mask-maintenance}
 use borrow.Author.Needs.{needs}

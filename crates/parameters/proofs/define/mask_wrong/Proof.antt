@@ -1,3 +1,4 @@
+-- `parameters::define::mask_wrong` meets its contract. Shifts and masks agree with the bits on all 256 bytes (`mask-ten`, `mask-spare`). Assumes nothing.
 use borrow.Author.Tests.{eq-eqb, ne-eqb}
 use Rattle.parameters.proofs.Tests.{mask-ten, mask-spare}
 use borrow.Author.Needs.{needs}

@@ -1,3 +1,4 @@
+-- `parameters::define::past_device` meets its contract. Assumes nothing.
 use Rattle.parameters.proofs.Tests.{not-below}
 use borrow.Author.Needs.{needs}
 use Rattle.parameters.proofs.define.past_device.Statement.{statement}

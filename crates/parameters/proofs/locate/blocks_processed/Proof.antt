@@ -1,3 +1,4 @@
+-- `parameters::locate::blocks_processed` meets its contract. Assumes nothing.
 use borrow.Author.Tests.{eq-eqb, ne-eqb}
 use Rattle.model.specs.Rules.{pick}
 use Rattle.parameters.proofs.locate.blocks_processed.Statement.{statement}

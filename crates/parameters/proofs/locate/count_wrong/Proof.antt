@@ -1,3 +1,4 @@
+-- `parameters::locate::count_wrong` meets its contract. Assumes nothing.
 use Rattle.parameters.proofs.Tests.{count-last}
 use borrow.Author.Tests.{eq-eqb, ne-eqb}
 use Rattle.parameters.proofs.locate.count_wrong.Statement.{statement}

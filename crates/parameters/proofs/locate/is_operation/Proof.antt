@@ -1,3 +1,4 @@
+-- `parameters::locate::is_operation` meets its contract. The table is `oneOf operations`, written out: one comparison that antt computes. Assumes nothing.
 use mathlib.Core.Path.{refl}
 use mathlib.Core.Bool.{false}
 use Rattle.model.specs.Parameters.{operations}

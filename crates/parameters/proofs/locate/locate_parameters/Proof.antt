@@ -1,3 +1,4 @@
+-- `parameters::locate::locate_parameters` meets its contract. Each test is one line of `locationCauses`, read over the parts that the code took the bytes into (`location-lines`); `permit` answers the rest. Assumes nothing.
 use Prim.Native.Nat.{ℕ}
 use mathlib.Core.Bool.{not}
 use borrow.Author.Tests.{eqb-false, not-false}

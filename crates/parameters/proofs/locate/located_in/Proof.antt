@@ -1,3 +1,4 @@
+-- `parameters::locate::located_in` meets its contract. Assumes nothing.
 use lib.ListN.{getD}
 use lib.Bits.{and-mask, mask-lt}
 use Rattle.model.specs.Parameters.{locatedIn}

@@ -1,3 +1,4 @@
+-- `parameters::locate::mask_forbids` meets its contract. The table is the definition's, entry by entry: one comparison that antt computes (`forbidden-at`). Assumes nothing.
 use Prim.Native.Nat.{_/_}
 use mathlib.Core.Path.{refl}
 use Rattle.parameters.proofs.Tests.{forbidden-at}

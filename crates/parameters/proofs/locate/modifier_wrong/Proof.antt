@@ -1,3 +1,4 @@
+-- `parameters::locate::modifier_wrong` meets its contract. Assumes nothing.
 use mathlib.Core.Path.{sym}
 use Rattle.parameters.proofs.Tests.{modifier-reserved}
 use borrow.Author.Needs.{needs}

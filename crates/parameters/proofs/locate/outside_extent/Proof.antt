@@ -1,3 +1,4 @@
+-- `parameters::locate::outside_extent` meets its contract. Assumes nothing.
 use borrow.Author.Tests.{lt-ltb, le-ltb}
 use Rattle.model.specs.Parameters.{outside}
 use borrow.Author.Needs.{needs}

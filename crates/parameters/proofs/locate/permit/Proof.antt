@@ -1,3 +1,4 @@
+-- `parameters::locate::permit` meets its contract. Each test is one line of `permissionCauses`, in its order. Assumes nothing.
 use mathlib.Core.Path.{sym, _∙_}
 use Rattle.model.proofs.Verdicts.{first-here, first-later, first-none}
 use borrow.Author.Tests.{eq-eqb, ne-eqb}

@@ -1,3 +1,4 @@
+-- `parameters::locate::replication_wrong` meets its contract. Assumes nothing.
 use borrow.Author.Tests.{eq-eqb, ne-eqb, lt-ltb, le-ltb}
 use borrow.Author.Needs.{needs}
 use Rattle.parameters.proofs.locate.replication_wrong.Statement.{statement}

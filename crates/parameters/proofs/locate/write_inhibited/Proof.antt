@@ -1,3 +1,4 @@
+-- `parameters::locate::write_inhibited` meets its contract. Assumes nothing.
 use Rattle.parameters.proofs.Tests.{inhibited-last}
 use borrow.Author.Tests.{eq-eqb, ne-eqb}
 use Rattle.model.specs.Rules.{oneOf}

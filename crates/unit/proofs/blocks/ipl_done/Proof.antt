@@ -1,3 +1,4 @@
+-- `unit::blocks::ipl_done` meets its contract. Assumes nothing.
 use Rattle.unit.specs.Cleared.{iplDone}
 use borrow.Author.Needs.{needs}
 use Rattle.unit.proofs.blocks.ipl_done.Statement.{statement}

@@ -1,3 +1,4 @@
+-- `unit::blocks::located_move` meets its contract. Assumes nothing.
 use mathlib.Core.Path.{refl}
 use native.Mathlib.Omega.{arith}
 use Rattle.unit.proofs.Transfers.{placed}

@@ -1,3 +1,4 @@
+-- `unit::blocks::read` meets its contract. Both refusals are lines of the table; past them a safe state places the blocks in the store (`placed`), and the parts moved make up READ (`read-moved`). Assumes nothing.
 use mathlib.Core.Path.{refl, sym, ap, _∙_}
 use mathlib.Core.Bool.{not}
 use native.Mathlib.Omega.{arith}

@@ -1,3 +1,4 @@
+-- `unit::blocks::read_done` meets its contract. Assumes nothing.
 use native.Mathlib.Omega.{arith}
 use Rattle.model.proofs.Fields.{begun-least}
 use Rattle.unit.specs.Cleared.{readDone}

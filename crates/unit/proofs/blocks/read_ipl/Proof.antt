@@ -1,3 +1,4 @@
+-- `unit::blocks::read_ipl` meets its contract. One refusal, then block 0: the device has it, so the bounds hold (`in-store`). Assumes nothing.
 use mathlib.Core.Path.{refl, sym, ap, _∙_}
 use mathlib.Core.Bool.{not}
 use native.Mathlib.Omega.{arith}

@@ -1,3 +1,4 @@
+-- `unit::blocks::whole_device` meets its contract. Assumes nothing.
 use mathlib.Core.Path.{refl}
 use Rattle.unit.specs.Cleared.{wholeOf}
 use borrow.Author.Needs.{needs}

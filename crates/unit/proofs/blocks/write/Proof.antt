@@ -1,3 +1,4 @@
+-- `unit::blocks::write` meets its contract. As READ: the bytes lent are the data area's, and what `blocks_into` stores is WRITE's store (`write-moved`). Assumes nothing.
 use mathlib.Core.Path.{refl, sym, ap, _∙_}
 use mathlib.Core.Bool.{not}
 use native.Mathlib.Omega.{arith}

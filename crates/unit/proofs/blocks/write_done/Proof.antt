@@ -1,3 +1,4 @@
+-- `unit::blocks::write_done` meets its contract. Assumes nothing.
 use Rattle.unit.specs.Cleared.{writeDone}
 use borrow.Author.Needs.{needs}
 use Rattle.unit.proofs.blocks.write_done.Statement.{statement}

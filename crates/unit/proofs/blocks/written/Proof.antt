@@ -1,3 +1,4 @@
+-- `unit::blocks::written` meets its contract. Assumes nothing.
 use borrow.Author.Tests.{eq-eqb, ne-eqb}
 use Rattle.model.specs.Rules.{pick}
 use borrow.Author.Needs.{needs}

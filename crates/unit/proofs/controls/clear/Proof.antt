@@ -1,3 +1,4 @@
+-- `unit::controls::clear` meets its contract. Assumes nothing.
 use Rattle.unit.specs.Cleared.{cleared}
 use borrow.Author.Needs.{needs}
 use Rattle.unit.proofs.controls.clear.Statement.{statement}

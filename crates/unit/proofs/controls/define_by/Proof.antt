@@ -1,3 +1,4 @@
+-- `unit::controls::define_by` meets its contract. Assumes nothing.
 use mathlib.Core.Path.{_∙_}
 use Rattle.unit.proofs.Deciding.{defined-cause, define-refused, define-taken}
 use borrow.Author.Needs.{needs}

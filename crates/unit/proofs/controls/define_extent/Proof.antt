@@ -1,3 +1,4 @@
+-- `unit::controls::define_extent` meets its contract. 20 and 21 are lines of the table; past them the sixteen bytes are there, and `define_by` answers by them. Assumes nothing.
 use mathlib.Core.Path.{refl, sym, ap, _∙_}
 use Prim.Native.Nat.{ℕ}
 use mathlib.Core.List.{List}

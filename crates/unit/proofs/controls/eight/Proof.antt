@@ -1,3 +1,4 @@
+-- `unit::controls::eight` meets its contract. Assumes nothing.
 use mathlib.Core.Path.{_≡_, refl, sym, ap, _∙_}
 use Rattle.moves.proofs.Laws.{put-copy}
 use borrow.Author.Needs.{needs}

@@ -1,3 +1,4 @@
+-- `unit::controls::locate` meets its contract. 30 and 31 are lines of the table; past them the eight bytes are there, and `locate_by` answers by them. Assumes nothing.
 use mathlib.Core.Path.{refl, sym, ap, _∙_}
 use Prim.Native.Nat.{ℕ}
 use mathlib.Core.List.{List}

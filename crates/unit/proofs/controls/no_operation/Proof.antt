@@ -1,3 +1,4 @@
+-- `unit::controls::no_operation` meets its contract. Assumes nothing.
 use Rattle.model.specs.Commands.{noOperation}
 use borrow.Author.Needs.{needs}
 use Rattle.unit.proofs.controls.no_operation.Statement.{statement}

@@ -1,3 +1,4 @@
+-- `unit::refusal::after` meets its contract. Assumes nothing.
 use mathlib.Core.Path.{refl}
 use Rattle.model.specs.Commands.{after}
 use Rattle.unit.proofs.refusal.after.Statement.{statement}

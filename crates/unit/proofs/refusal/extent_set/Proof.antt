@@ -1,3 +1,4 @@
+-- `unit::refusal::extent_set` meets its contract. Assumes nothing.
 use mathlib.Core.Path.{refl}
 use Rattle.model.specs.Commands.{extentSet}
 use Rattle.unit.proofs.refusal.extent_set.Statement.{statement}

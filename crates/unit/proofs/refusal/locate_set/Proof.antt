@@ -1,3 +1,4 @@
+-- `unit::refusal::locate_set` meets its contract. Assumes nothing.
 use mathlib.Core.Path.{refl}
 use Rattle.model.specs.Commands.{locateSet}
 use Rattle.unit.proofs.refusal.locate_set.Statement.{statement}

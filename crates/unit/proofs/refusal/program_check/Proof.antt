@@ -1,3 +1,4 @@
+-- `unit::refusal::program_check` meets its contract. Assumes nothing.
 use Rattle.model.proofs.Refusals.{refusal-program}
 use borrow.Author.Needs.{needs}
 use Rattle.unit.proofs.refusal.program_check.Statement.{statement}

@@ -1,3 +1,4 @@
+-- `unit::refusal::refuse` meets its contract. Assumes nothing.
 use mathlib.Core.Path.{_∙_}
 use Rattle.model.proofs.Refusals.{refusal-any}
 use borrow.Author.Needs.{needs}

@@ -1,3 +1,4 @@
+-- `unit::refusal::unit_check` meets its contract. Assumes nothing.
 use Rattle.model.proofs.Refusals.{refusal-unit}
 use borrow.Author.Needs.{needs}
 use Rattle.unit.proofs.refusal.unit_check.Statement.{statement}

@@ -1,3 +1,4 @@
+-- `unit::senses::read_log` meets its contract. Assumes nothing.
 use Rattle.records.proofs.Stores.{Arrays, log-length}
 use mathlib.Core.Path.{_≡_, refl, sym, ap, _∙_}
 use lib.ListN.{length}

@@ -1,3 +1,4 @@
+-- `unit::senses::send` meets its contract. Assumes nothing.
 use Rattle.model.specs.Lent.{delivered}
 use Rattle.model.specs.Commands.{sent}
 use borrow.Author.Needs.{needs}

@@ -1,3 +1,4 @@
+-- `unit::senses::sense` meets its contract. Assumes nothing.
 use mathlib.Core.Path.{_≡_, refl, sym, ap, _∙_}
 use lib.ListN.{length}
 use Rattle.model.specs.Commands.{sense}

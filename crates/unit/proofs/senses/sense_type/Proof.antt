@@ -1,3 +1,4 @@
+-- `unit::senses::sense_type` meets its contract. Assumes nothing.
 use Rattle.model.specs.Commands.{senseType}
 use borrow.Author.Needs.{needs}
 use Rattle.unit.proofs.senses.sense_type.Statement.{statement}

@@ -1,3 +1,4 @@
+-- `unit::step::channel_cause` meets its contract. Each test is one line of `channelCauses`, in its order. Assumes nothing.
 use mathlib.Core.Path.{refl, sym, _∙_}
 use borrow.Author.Tests.{eq-eqb, ne-eqb}
 use Rattle.model.specs.Rules.{oneOf}

@@ -1,3 +1,4 @@
+-- `unit::step::is_listed` meets its contract. Assumes nothing.
 use borrow.Author.Tests.{ne-eqb}
 use Rattle.model.specs.Rules.{oneOf}
 use Rattle.unit.proofs.step.is_listed.Statement.{statement}

@@ -1,3 +1,4 @@
+-- `unit::step::leaves_storage` meets its contract. Assumes nothing.
 use borrow.Author.Tests.{eq-eqb, ne-eqb}
 use borrow.Author.Needs.{needs}
 use Rattle.unit.proofs.step.leaves_storage.Statement.{statement}

@@ -1,3 +1,4 @@
+-- `unit::step::no_command` meets its contract. Assumes nothing.
 use mathlib.Core.Path.{refl}
 use Prim.Native.Nat.{ℕ, _%_}
 use mathlib.Core.List.{[], _∷_}

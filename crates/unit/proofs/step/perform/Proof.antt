@@ -1,3 +1,4 @@
+-- `unit::step::perform` meets its contract. Each arm: the command's number picks its own table and its effect (`perform-..`). Assumes nothing.
 use mathlib.Core.Path.{ap, _∙_}
 use native.Mathlib.Omega.{arith}
 use Rattle.model.specs.declared.state.State.{State}

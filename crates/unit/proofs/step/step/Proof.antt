@@ -1,3 +1,4 @@
+-- `unit::step::step` meets its contract. The channel's table, then the unit's, then the command's own: `step-stopped` where one of the first two refuses, `step-own` past them. Assumes nothing.
 use mathlib.Core.Path.{sym, _∙_}
 use Rattle.model.proofs.Steps.{early-channel, early-unit, channel-room, step-own}
 use Rattle.unit.proofs.Performing.{step-stopped}

@@ -1,3 +1,4 @@
+-- `unit::step::unit_cause` meets its contract. Each test is one line of `unitCauses`, in its order. Assumes nothing.
 use mathlib.Core.Path.{refl, sym, ap, _∙_}
 use mathlib.Core.Bool.{not}
 use native.Mathlib.Omega.{arith}

@@ -1,3 +1,4 @@
+-- `model::extent::Extent::address` meets its contract. Assumes nothing.
 use Rattle.model.specs.Parameters.{address}
 use borrow.Author.Needs.{needs}
 use Rattle.model.proofs.extent.Extent.address.Statement.{statement}

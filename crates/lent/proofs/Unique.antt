@@ -1,0 +1,103 @@
+-- A promise determines its result: two results that it allows are equal. One theorem for each form that a promise takes.
+--     same-by         a result that is named, `r ≡ f x`: most functions, and the call with every buffer in one record
+--     out-unique      a command's answer with the two storages, `out r main store ≡ ..`
+--     defined-unique, location-unique   an answer that is known by its number
+--     status-unique, channel-unique     a status that is known by its byte
+--     after-unique, made-unique         the run, by value and in place
+-- docs/PROOFS.md lists which function has which form. Assumes nothing.
+use Prim.Native.Nat.{ℕ}
+use mathlib.Core.Path.{_≡_, refl, sym, ap, _∙_}
+use mathlib.Core.List.{List}
+use lib.Dec.{eqb}
+use Rattle.model.specs.declared.record.Record.{Record}
+use Rattle.model.specs.declared.state.Done.{Done}
+use Rattle.model.specs.declared.status.Status.{Status}
+use Rattle.model.specs.declared.status.Channel.{Channel}
+use Rattle.model.specs.Commands.{Out, out}
+use Rattle.model.specs.Rules.{pick}
+use Rattle.parameters.specs.declared.define.Defined.{Defined}
+use Rattle.parameters.specs.declared.define.Defined.the-variants.{Taken, BadMask, Maintenance, BadSize, FirstAfterLast, PastDevice}
+use Rattle.parameters.specs.declared.locate.Location.{Location}
+use Rattle.parameters.specs.declared.locate.Location.the-variants.{Found, BadModifier, BadOperation, BadCount, BadReplication, OutsideExtent, Forbidden, ReadOnly, NoAlternate}
+use Rattle.parameters.specs.Answers.{definedNumber, locationNumber}
+use Rattle.lent.specs.declared.Ran.{Ran}
+use Rattle.lent.specs.Run.{Outcome, After, Made}
+
+pub same-by : {A : Type 0} (x y z : A) → x ≡ z → y ≡ z → x ≡ y
+same-by x y z p q = p ∙ sym q
+
+pub record SameOut (d e : Done) (main main′ store store′ : List ℕ) : Type 0 where
+  pub done-same : d ≡ e
+  pub main-same : main ≡ main′
+  pub store-same : store ≡ store′
+
+pub out-unique : (o : Out) (d e : Done) (main main′ store store′ : List ℕ) → out d main store ≡ o → out e main′ store′ ≡ o → SameOut d e main main′ store store′
+out-unique o d e main main′ store store′ p q =
+    let r = p ∙ sym q in
+    record { done-same = ap (λ (x : Out). x .done) r; main-same = ap (λ (x : Out). x .main) r; store-same = ap (λ (x : Out). x .store) r }
+
+pub status-unique : (n : ℕ) (a b : Status) → a .0 ≡ n → b .0 ≡ n → a ≡ b
+status-unique n a b p q = λ i. record { 0 = same-by (a .0) (b .0) n p q i }
+
+pub channel-unique : (n : ℕ) (a b : Channel) → a .0 ≡ n → b .0 ≡ n → a ≡ b
+channel-unique n a b p q = λ i. record { 0 = same-by (a .0) (b .0) n p q i }
+
+-- the answer that has a number: there and back
+definedOf : ℕ → Defined
+definedOf n = pick (eqb n 22) BadMask (pick (eqb n 23) Maintenance (pick (eqb n 24) BadSize (pick (eqb n 25) FirstAfterLast (pick (eqb n 26) PastDevice Taken))))
+
+defined-back : (d : Defined) → definedOf (definedNumber d) ≡ d
+unfolding definedOf pick
+defined-back Taken = refl
+defined-back BadMask = refl
+defined-back Maintenance = refl
+defined-back BadSize = refl
+defined-back FirstAfterLast = refl
+defined-back PastDevice = refl
+
+pub defined-unique : (n : ℕ) (a b : Defined) → definedNumber a ≡ n → definedNumber b ≡ n → a ≡ b
+defined-unique n a b p q = sym (defined-back a) ∙ ap definedOf (p ∙ sym q) ∙ defined-back b
+
+locationOf : ℕ → Location
+locationOf n =
+    pick (eqb n 32) BadModifier (pick (eqb n 33) BadOperation (pick (eqb n 34) BadCount (pick (eqb n 35) BadReplication
+    (pick (eqb n 36) OutsideExtent (pick (eqb n 37) Forbidden (pick (eqb n 38) ReadOnly (pick (eqb n 39) NoAlternate Found)))))))
+
+location-back : (l : Location) → locationOf (locationNumber l) ≡ l
+unfolding locationOf pick
+location-back Found = refl
+location-back BadModifier = refl
+location-back BadOperation = refl
+location-back BadCount = refl
+location-back BadReplication = refl
+location-back OutsideExtent = refl
+location-back Forbidden = refl
+location-back ReadOnly = refl
+location-back NoAlternate = refl
+
+pub location-unique : (n : ℕ) (a b : Location) → locationNumber a ≡ n → locationNumber b ≡ n → a ≡ b
+location-unique n a b p q = sym (location-back a) ∙ ap locationOf (p ∙ sym q) ∙ location-back b
+
+pub record SameRun (v w : Ran) (storage storage′ store store′ answers answers′ : List ℕ) : Type 0 where
+  pub unit-same : v .unit ≡ w .unit
+  pub code-same : v .code ≡ w .code
+  pub storage-same : storage ≡ storage′
+  pub store-same : store ≡ store′
+  pub answers-same : answers ≡ answers′
+
+pub after-unique : (r : Record) (chain m s a : List ℕ) (v w : Ran) (m₁ s₁ a₁ m₂ s₂ a₂ : List ℕ)
+    → After r chain m s a v m₁ s₁ a₁ → After r chain m s a w m₂ s₂ a₂ → SameRun v w m₁ m₂ s₁ s₂ a₁ a₂
+after-unique r chain m s a v w m₁ s₁ a₁ m₂ s₂ a₂ p q =
+    let e = p .is ∙ sym (q .is) in
+    record {
+      unit-same = ap (λ (x : Outcome). x .unit) e;
+      code-same = ap (λ (x : Outcome). x .code) e;
+      storage-same = ap (λ (x : Outcome). x .storage) e;
+      store-same = ap (λ (x : Outcome). x .store) e;
+      answers-same = ap (λ (x : Outcome). x .answers) e;
+    }
+
+pub made-unique : (r : Record) (chain m s a : List ℕ) (c d : ℕ) (u v : Record) (m₁ s₁ a₁ m₂ s₂ a₂ : List ℕ)
+    → Made r chain m s a c u m₁ s₁ a₁ → Made r chain m s a d v m₂ s₂ a₂ → SameRun (record { unit = u; code = c }) (record { unit = v; code = d }) m₁ m₂ s₁ s₂ a₁ a₂
+made-unique r chain m s a c d u v m₁ s₁ a₁ m₂ s₂ a₂ p q =
+    after-unique r chain m s a (record { unit = u; code = c }) (record { unit = v; code = d }) m₁ s₁ a₁ m₂ s₂ a₂ (record { is = p .is }) (record { is = q .is })
