@@ -193,13 +193,6 @@ put-lent-whole l back at n e h =
     let f : at + length back ≡ at + n = rw (e, mid-len at (at + n) l h) (omega arith) in
     rw (f, post-is at (at + n) l (omega arith), append-assoc)
 
--- the callee filled the part
-pub put-lent-pad : (l bytes back : List ℕ) (at n : ℕ) → back ≡ pad (length (midOf at (at + n - at) l)) bytes → at + n ≤ length l
-    → putMid at (at + n - at) l back ≡ put l at (pad n bytes)
-put-lent-pad l bytes back at n e h =
-    let f : length (midOf at (at + n - at) l) ≡ n = mid-len at (at + n) l h ∙ omega arith in
-    put-lent-whole l back at n (rw e (length-pad _ bytes)) h ∙ ap (put l at) (rw f at e)
-
 -- what `&l[at..at + n]` lends
 pub part-lent : (l : List ℕ) (at n : ℕ) → midOf at (at + n - at) l ≡ part l at n
 unfolding part
@@ -220,13 +213,6 @@ put-lent-filled l bytes back at n e h =
     let long : length (midOf at (at + n - at) l) ≡ n = mid-len at (at + n) l h ∙ omega arith in
     let filled : back ≡ pad n bytes = rw long at e in
     put-lent-whole l back at n (rw (filled, long) (length-pad n bytes)) h ∙ ap (put l at) filled
-
--- the first n bytes of what `&l[at..]` lends
-pub part-lent-tail : (l : List ℕ) (at n : ℕ) → take n (midOf at (length l - at) l) ≡ part l at n
-unfolding part
-part-lent-tail l at n =
-    let e : length (drop at l) ≤ length l - at = simp length-drop (omega arith) in
-    rw (take-all (length l - at) (drop at l) e)
 
 -- bytes that fit are copied, and the rest is cleared
 

@@ -1,15 +1,9 @@
 -- Laws of a byte's bits, each by computing all 256 bytes. No contract cites this file.
 --     same-on-bytes   two functions with the same 256 values agree at every byte
 --     sum-of-powers   a byte is the sum of its bits times powers of two
---     flags-example   bits that a mask picks out: how a user compares a mask with `anyBit`
 use Prim.Native.Nat.{ℕ, zero, suc, _+_, _-_, _*_, _/_, _%_, _^_, _<_}
 use mathlib.Core.Path.{_≡_, refl}
-use mathlib.Core.Bool.{not}
-use mathlib.Core.List.{[], _∷_}
-use lib.Dec.{eqb}
-use lib.Bits.{bitAnd}
 use Rattle.numbers.proofs.Tables.{values, same-upto}
-use Rattle.numbers.specs.Bits.{bit, anyBit}
 
 -- use: `same-on-bytes f g refl b h`, where antt computes both lists and compares them
 pub same-on-bytes : {A : Type 0} (f g : ℕ → A) → values f 0 256 ≡ values g 0 256 → (k : ℕ) → k < 256 → f k ≡ g k
@@ -22,7 +16,3 @@ powers b n (suc k) = b / 2 ^ (7 - n) % 2 * 2 ^ (7 - n) + powers b (suc n) k
 
 pub sum-of-powers : (b : ℕ) → b < 256 → b ≡ powers b 0 8
 sum-of-powers b h = same-on-bytes (λ (x : ℕ). x) (λ (x : ℕ). powers x 0 8) refl b h
-
-pub flags-example : (f : ℕ) → f < 256 → not (eqb (bitAnd f 0x9F) 0) ≡ anyBit f (0 ∷ 3 ∷ 4 ∷ 5 ∷ 6 ∷ 7 ∷ [])
-unfolding anyBit bit
-flags-example f h = same-on-bytes (λ (x : ℕ). not (eqb (bitAnd x 0x9F) 0)) (λ (x : ℕ). anyBit x (0 ∷ 3 ∷ 4 ∷ 5 ∷ 6 ∷ 7 ∷ [])) refl f h
