@@ -1,0 +1,27 @@
+-- `play::shows` is safe and ends: k goes up to n. Assumes nothing.
+use Prim.Native.Nat.{_≤_, _-_}
+use borrow.Author.Needs.{needs}
+use Rattle.vectors.proofs.play.shows.Statement.{statement}
+use Rattle.vectors.proofs.play.shows.Tie as tie
+
+abbrev Inv-loop : tie.InvT-loop
+Inv-loop table unit storage store answers from n k₀ t10 k = k ≤ n
+
+abbrev μ-loop : tie.MeasureT-loop
+μ-loop table unit storage store answers from n k₀ t10 k = n - k
+
+pub shows-spec : {M : Type 1} → statement M
+shows-spec =
+    tie.close
+    (tie.spec
+    Inv-loop
+    μ-loop
+    (search needs) -- loop-holds
+    (search needs) -- word-requires
+    (search needs) -- shown-requires
+    (search needs) -- add-k
+    (search needs) -- loop-less
+    (search needs) -- loop-again
+    (search needs) -- slice-aggregate-text
+    (search needs) -- text-requires
+    (search needs)) -- returns

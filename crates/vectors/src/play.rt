@@ -1,0 +1,212 @@
+// One vector after the other: its buffers are laid out, its chain is run, and its line is printed.
+// The way in is `group`.
+ghost use Prim.Native.Nat.{_≤_, _<_};
+use crate::show;
+use crate::words;
+use crate::words::Vector;
+use lent::Ran;
+use model::record::Record;
+
+// The settings of a vector, each a bit; two bits more say which store (`store_bytes`).
+const NOT_READY: u64 = 0x01;
+const READ_ONLY: u64 = 0x02;
+const KEPT: u64 = 0x04;
+const NEARLY_FULL: u64 = 0x08;
+const YES_IS_80: u64 = 0x40;
+
+// What every buffer byte is before the run, where nothing else is said.
+const STORAGE_BYTE: u8 = 0xFF;
+const ANSWER_BYTE: u8 = 0xAA;
+
+// A vector's number in print.
+pub struct Id {
+    pub group: u64,
+    pub number: u64,
+}
+
+fn has(setting: u64, bit: u64) -> bool
+    requires { ⌜ 0 < bit ⌝ }
+{
+    setting / bit % 2 == 1
+}
+
+fn least(a: usize, b: usize) -> usize
+    ensures { λ r. ⌜ (r ≤ a) × (r ≤ b) ⌝ }
+{
+    if a < b { a } else { b }
+}
+
+// How many bytes of store a setting lends.
+fn store_bytes(setting: u64) -> usize {
+    let which = setting / 16 % 4;
+    match which {
+        0 => 4096,
+        1 => 512,
+        2 => 0,
+        _ => 513,
+    }
+}
+
+// A yes or no of the record.
+fn yes_or_no(yes: bool, setting: u64) -> u8 {
+    if yes {
+        if has(setting, YES_IS_80) { 0x80 } else { 1 }
+    } else {
+        0
+    }
+}
+
+// A record whose three counts are one short of their largest values.
+fn nearly_full(unit: Record) -> Record {
+    let mut worn = unit;
+    worn.blocks_read = [255, 255, 254];
+    worn.blocks_written = [255, 255, 254];
+    worn.movements = [255, 254];
+    worn
+}
+
+// A new unit as the setting has it.
+fn fresh(setting: u64) -> Record {
+    let ready = yes_or_no(!has(setting, NOT_READY), setting);
+    let read_only = yes_or_no(has(setting, READ_ONLY), setting);
+    let unit = records::layout::new_record(ready, read_only);
+    if has(setting, NEARLY_FULL) { nearly_full(unit) } else { unit }
+}
+
+// The record that the vector starts from: the one before it left, or a new one.
+fn start(left: Record, setting: u64) -> Record {
+    if has(setting, KEPT) { left } else { fresh(setting) }
+}
+
+// A new main storage and store, unless the setting keeps those that the vector before left.
+fn renew(setting: u64, storage: &mut [u8], store: &mut [u8]) {
+    if has(setting, KEPT) {
+        return;
+    }
+    words::fill(storage, STORAGE_BYTE);
+    words::number_blocks(store);
+}
+
+// Lays out the buffers. Chain words past the vector's own are not lent.
+fn lay(
+    v: Vector,
+    table: &[u64],
+    chain: &mut [u8],
+    storage: &mut [u8],
+    store: &mut [u8],
+    answers: &mut [u8],
+) {
+    renew(v.setting, storage, store);
+    words::put(storage, table, v.storage_at, v.storage_words);
+    words::put(chain, table, v.chain_at, 33);
+    words::fill(answers, ANSWER_BYTE);
+}
+
+// Lends the buffers, each as long as the vector has it, to the library.
+fn run(
+    unit: Record,
+    v: Vector,
+    chain: &[u8],
+    storage: &mut [u8],
+    store: &mut [u8],
+    answers: &mut [u8],
+) -> Ran {
+    let c = least(v.chain, chain.len());
+    let m = least(v.storage, storage.len());
+    let s = least(store_bytes(v.setting), store.len());
+    let a = least(v.answers, answers.len());
+    lent::run_core(unit, &chain[0..c], &mut storage[0..m], &mut store[0..s], &mut answers[0..a])
+}
+
+// The places that the vector wants shown, each after the other.
+fn shows(v: Vector, table: &[u64], unit: Record, storage: &[u8], store: &[u8], answers: &[u8]) {
+    let from = v.shows_at;
+    let n = v.shows;
+    let mut k = 0;
+    while k < n {
+        show::shown(words::word(table, from, k), unit, storage, store, answers);
+        k += 1;
+    }
+    show::text(b"\n");
+}
+
+// The vector's line.
+fn tell(id: Id, v: Vector, table: &[u64], ran: Ran, storage: &[u8], store: &[u8], answers: &[u8]) {
+    show::decimal(id.group);
+    show::labelled(b".", id.number);
+    show::line(ran, answers);
+    let unit = ran.unit;
+    shows(v, table, unit, storage, store, answers);
+}
+
+// Runs one vector; `left` is the record that the one before it left.
+fn played(
+    v: Vector,
+    table: &[u64],
+    left: Record,
+    chain: &mut [u8],
+    storage: &mut [u8],
+    store: &mut [u8],
+    answers: &mut [u8],
+) -> Ran {
+    let unit = start(left, v.setting);
+    lay(v, table, chain, storage, store, answers);
+    run(unit, v, chain, storage, store, answers)
+}
+
+// Runs one vector and prints its line. It returns the record that the vector leaves.
+fn one(
+    id: Id,
+    v: Vector,
+    table: &[u64],
+    left: Record,
+    chain: &mut [u8],
+    storage: &mut [u8],
+    store: &mut [u8],
+    answers: &mut [u8],
+) -> Record {
+    let ran = played(v, table, left, chain, storage, store, answers);
+    tell(id, v, table, ran, storage, store, answers);
+    ran.unit
+}
+
+// A line for each vector of the table.
+fn turns(
+    group: u64,
+    table: &[u64],
+    chain: &mut [u8],
+    storage: &mut [u8],
+    store: &mut [u8],
+    answers: &mut [u8],
+) {
+    let mut unit = fresh(0);
+    let mut at = 0;
+    let mut number: u64 = 0;
+    while at < table.len() {
+        number += 1;
+        let v = words::opened(table, at);
+        let id = Id {
+            group: group,
+            number: number,
+        };
+        unit = one(id, v, table, unit, chain, storage, store, answers);
+        at = v.next;
+    }
+}
+
+fn heading(n: u64, title: &[u8]) {
+    show::decimal(n);
+    show::text(b". ");
+    show::text(title);
+    show::text(b"\n");
+}
+
+// A group of vectors: its heading, and its lines.
+pub fn group(n: u64, title: &[u8], table: &[u64]) {
+    let mut chain = [0; 264];
+    let mut storage = [0; 1088];
+    let mut store = [0; 4096];
+    let mut answers = [0; 264];
+    heading(n, title);
+    turns(n, table, &mut chain, &mut storage, &mut store, &mut answers);
+}
