@@ -12,12 +12,39 @@ pub fn least(a: usize, b: usize) -> usize
     if a < b { a } else { b }
 }
 
+// The first k bytes of `from` go to the front of `to`, one by one.
+fn each(from: &[u8], to: &mut [u8], k: usize)
+    requires { ⌜ (k ≤ length (now from)) × (k ≤ length (now to)) ⌝ }
+    ensures { λ _. ⌜ now (to .exit) ≡ put (now (to .entry)) 0 (take k (now (from .entry))) ⌝ }
+{
+    bytes::copy(&from[..k], to);
+}
+
+// What is carried at a time.
+const HELD: usize = 4096;
+
+// The same by way of a local. LLVM is not told that `from` and `to` lie apart, but sees that a local lies apart from both:
+// either `each` is a memcpy then, the two are one memmove from `from` to `to`, and nothing is held when the code runs.
+fn carry(from: &[u8], to: &mut [u8], k: usize)
+    requires { ⌜ (k ≤ length (now from)) × (k ≤ length (now to)) × (k ≤ 4096) ⌝ }
+    ensures { λ _. ⌜ now (to .exit) ≡ put (now (to .entry)) 0 (take k (now (from .entry))) ⌝ }
+{
+    let mut held = [0u8; HELD];
+    each(from, &mut held, k);
+    each(&held, to, k);
+}
+
 // The first n bytes of `from` go to the front of `to`.
 pub fn copy(from: &[u8], to: &mut [u8], n: usize)
     requires { ⌜ (n ≤ length (now from)) × (n ≤ length (now to)) ⌝ }
     ensures { λ _. ⌜ now (to .exit) ≡ put (now (to .entry)) 0 (take n (now (from .entry))) ⌝ }
 {
-    bytes::copy(&from[..n], to);
+    let mut at = 0;
+    while at < n {
+        let m = least(HELD, n - at);
+        carry(&from[at..], &mut to[at..], m);
+        at += m;
+    }
 }
 
 // Zero in every byte.
