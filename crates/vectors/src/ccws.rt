@@ -4,17 +4,22 @@
 // 16, 8 for a second LOCATE at 24. Data begins at 32.
 
 pub const NOOP: u64 = 0x03_000000_40_00_0001;
+
 pub const LAST_NOOP: u64 = 0x03_000000_00_00_0001;
 
 pub const DEFINE: u64 = 0x63_000000_40_00_0010;
+
 pub const LAST_DEFINE: u64 = 0x63_000000_00_00_0010;
 
 pub const LOCATE: u64 = 0x43_000010_40_00_0008;
+
 pub const LAST_LOCATE: u64 = 0x43_000010_00_00_0008;
+
 pub const LOCATE_2: u64 = 0x43_000018_40_00_0008;
 
 // One block.
 pub const LAST_READ: u64 = 0x42_000020_00_00_0200;
+
 pub const LAST_WRITE: u64 = 0x41_000020_00_00_0200;
 
 // READ IPL of one byte: flag 20, so that the chain goes on.

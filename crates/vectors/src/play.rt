@@ -9,13 +9,18 @@ use model::record::Record;
 
 // The settings of a vector, each a bit; two bits more say which store (`store_bytes`).
 const NOT_READY: u64 = 0x01;
+
 const READ_ONLY: u64 = 0x02;
+
 const KEPT: u64 = 0x04;
+
 const NEARLY_FULL: u64 = 0x08;
+
 const YES_IS_80: u64 = 0x40;
 
 // What every buffer byte is before the run, where nothing else is said.
 const STORAGE_BYTE: u8 = 0xFF;
+
 const ANSWER_BYTE: u8 = 0xAA;
 
 // A vector's number in print.
@@ -70,12 +75,20 @@ fn fresh(setting: u64) -> Record {
     let ready = yes_or_no(!has(setting, NOT_READY), setting);
     let read_only = yes_or_no(has(setting, READ_ONLY), setting);
     let unit = records::layout::new_record(ready, read_only);
-    if has(setting, NEARLY_FULL) { nearly_full(unit) } else { unit }
+    if has(setting, NEARLY_FULL) {
+        nearly_full(unit)
+    } else {
+        unit
+    }
 }
 
 // The record that the vector starts from: the one before it left, or a new one.
 fn start(left: Record, setting: u64) -> Record {
-    if has(setting, KEPT) { left } else { fresh(setting) }
+    if has(setting, KEPT) {
+        left
+    } else {
+        fresh(setting)
+    }
 }
 
 // A new main storage and store, unless the setting keeps those that the vector before left.
@@ -115,7 +128,13 @@ fn run(
     let m = least(v.storage, storage.len());
     let s = least(store_bytes(v.setting), store.len());
     let a = least(v.answers, answers.len());
-    lent::run_core(unit, &chain[0..c], &mut storage[0..m], &mut store[0..s], &mut answers[0..a])
+    lent::run_core(
+        unit,
+        &chain[0..c],
+        &mut storage[0..m],
+        &mut store[0..s],
+        &mut answers[0..a],
+    )
 }
 
 // The places that the vector wants shown, each after the other.

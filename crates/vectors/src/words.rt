@@ -22,7 +22,11 @@ pub fn word(table: &[u64], from: usize, k: usize) -> u64 {
     if table.len() <= from {
         return 0;
     }
-    if k < table.len() - from { table[from + k] } else { 0 }
+    if k < table.len() - from {
+        table[from + k]
+    } else {
+        0
+    }
 }
 
 // The place n words past `at`, or the table's end.
@@ -30,7 +34,11 @@ fn past(table: &[u64], at: usize, n: usize) -> usize
     requires { ⌜ at ≤ length (now table) ⌝ }
     ensures { λ r. ⌜ (at ≤ r) × (r ≤ length (now (table .entry))) ⌝ }
 {
-    if n < table.len() - at { at + n } else { table.len() }
+    if n < table.len() - at {
+        at + n
+    } else {
+        table.len()
+    }
 }
 
 // The vector at `at`, its first word taken apart.

@@ -16,12 +16,12 @@ shows-spec =
     (tie.spec
     Inv-loop
     μ-loop
-    (search needs) -- loop-holds
-    (search needs) -- word-requires
-    (search needs) -- shown-requires
-    (search needs) -- add-k
-    (search needs) -- loop-less
-    (search needs) -- loop-again
-    (search needs) -- slice-aggregate-text
-    (search needs) -- text-requires
-    (search needs)) -- returns
+    (search needs)  -- loop-holds
+    (search needs)  -- word-requires
+    (search needs)  -- shown-requires
+    (search needs)  -- add-k
+    (search needs)  -- loop-less
+    (search needs)  -- loop-again
+    (search needs)  -- slice-aggregate-text
+    (search needs)  -- text-requires
+    (search needs))  -- returns

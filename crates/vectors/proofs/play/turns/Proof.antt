@@ -19,15 +19,15 @@ turns-spec =
     (tie.spec
     Inv-loop
     μ-loop
-    (search needs) -- fresh-requires
-    (search needs) -- loop-holds
-    (search needs) -- add-number
-    (search needs) -- opened-requires
-    (search needs) -- one-requires
-    (search needs) -- loop-less
-    (search needs) -- loop-again
-    (search needs) -- same-length
-    (search needs) -- same-length-2
-    (search needs) -- same-length-3
-    (search needs) -- same-length-4
-    (search needs)) -- returns
+    (search needs)  -- fresh-requires
+    (search needs)  -- loop-holds
+    (search needs)  -- add-number
+    (search needs)  -- opened-requires
+    (search needs)  -- one-requires
+    (search needs)  -- loop-less
+    (search needs)  -- loop-again
+    (search needs)  -- same-length
+    (search needs)  -- same-length-2
+    (search needs)  -- same-length-3
+    (search needs)  -- same-length-4
+    (search needs))  -- returns

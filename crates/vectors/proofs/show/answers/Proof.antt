@@ -16,11 +16,11 @@ answers-spec =
     (tie.spec
     Inv-loop
     μ-loop
-    (search needs) -- loop-holds
-    (search needs) -- cast-answer
-    (search needs) -- mul-answer
-    (search needs) -- answer-requires
-    (search needs) -- add-i
-    (search needs) -- loop-less
-    (search needs) -- loop-again
-    (search needs)) -- returns
+    (search needs)  -- loop-holds
+    (search needs)  -- cast-answer
+    (search needs)  -- mul-answer
+    (search needs)  -- answer-requires
+    (search needs)  -- add-i
+    (search needs)  -- loop-less
+    (search needs)  -- loop-again
+    (search needs))  -- returns

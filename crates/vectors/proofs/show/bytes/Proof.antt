@@ -16,10 +16,10 @@ bytes-spec =
     (tie.spec
     Inv-loop
     μ-loop
-    (search needs) -- loop-holds
-    (search needs) -- at-requires
-    (search needs) -- byte-requires
-    (search needs) -- add-k
-    (search needs) -- loop-less
-    (search needs) -- loop-again
-    (search needs)) -- returns
+    (search needs)  -- loop-holds
+    (search needs)  -- at-requires
+    (search needs)  -- byte-requires
+    (search needs)  -- add-k
+    (search needs)  -- loop-less
+    (search needs)  -- loop-again
+    (search needs))  -- returns

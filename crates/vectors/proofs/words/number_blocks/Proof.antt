@@ -21,11 +21,11 @@ number-blocks-spec =
     (tie.spec
     Inv-loop
     μ-loop
-    (search needs) -- loop-holds
-    (search needs) -- cast-s
-    (search needs) -- slice-write-s
-    (search needs) -- add-i
-    (search needs) -- loop-less
+    (search needs)  -- loop-holds
+    (search needs)  -- cast-s
+    (search needs)  -- slice-write-s
+    (search needs)  -- add-i
+    (search needs)  -- loop-less
     loop-again
-    (search needs) -- same-length
-    (search needs)) -- returns
+    (search needs)  -- same-length
+    (search needs))  -- returns

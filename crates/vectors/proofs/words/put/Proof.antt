@@ -21,14 +21,14 @@ put-spec =
     (tie.spec
     Inv-loop
     μ-loop
-    (search needs) -- loop-holds
-    (search needs) -- same-length
-    (search needs) -- returns
-    (search needs) -- word-requires
-    (search needs) -- byte-of-requires
-    (search needs) -- slice-write-s
-    (search needs) -- add-i
-    (search needs) -- loop-less
+    (search needs)  -- loop-holds
+    (search needs)  -- same-length
+    (search needs)  -- returns
+    (search needs)  -- word-requires
+    (search needs)  -- byte-of-requires
+    (search needs)  -- slice-write-s
+    (search needs)  -- add-i
+    (search needs)  -- loop-less
     loop-again
-    (search needs) -- same-length-2
-    (search needs)) -- returns-2
+    (search needs)  -- same-length-2
+    (search needs))  -- returns-2
