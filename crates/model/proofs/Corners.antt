@@ -1,11 +1,13 @@
 -- Corners of 01, seen in whole calls: the order of the causes where two rules hold, and what is given "exactly when".
 -- One table, one statement. Assumes nothing.
-use Prim.Native.Nat.{ℕ}
+use Prim.Native.Nat.{ℕ, _*_}
 use mathlib.Core.Path.{_≡_, refl}
 use mathlib.Core.List.{List, [], _∷_, _++_, map}
-use lib.ListN.{replicate}
+use lib.ListN.{length, replicate}
 use Rattle.model.specs.Names.{NO-OPERATION, DEFINE-EXTENT, LOCATE, READ, READ-IPL, SENSE, SENSE-TYPE, write-data, read-data}
+use Rattle.model.specs.Rules.{firstOf}
 use Rattle.model.specs.Lent.{newRecord}
+use Rattle.model.specs.Causes.{callCauses}
 use Rattle.model.proofs.Opened.{opened}
 use Rattle.model.proofs.Inputs.{lent, device, ccw, extent, location, Line, got, wanted, causeOf}
 
@@ -66,3 +68,20 @@ lines =
 pub corners : map got lines ≡ map wanted lines
 unfolding opened
 corners = refl
+
+-- The two limits that no example can hold: 16,777,216 bytes of main storage, and 131,072 blocks. Any list of that length, and of one more.
+
+abbrev one-command : List ℕ
+one-command = ccw NO-OPERATION 0 0x00 1
+
+pub storage-limit : (main : List ℕ)
+    → (length main ≡ 16777216 → firstOf (callCauses 512 one-command main (device 1) (replicate 8 0)) ≡ 0)
+    × (length main ≡ 16777217 → firstOf (callCauses 512 one-command main (device 1) (replicate 8 0)) ≡ 3)
+unfolding opened
+storage-limit main = (λ e. rw e refl, λ e. rw e refl)
+
+pub store-limit : (store : List ℕ)
+    → (length store ≡ 131072 * 512 → firstOf (callCauses 512 one-command [] store (replicate 8 0)) ≡ 0)
+    × (length store ≡ 131073 * 512 → firstOf (callCauses 512 one-command [] store (replicate 8 0)) ≡ 2)
+unfolding opened
+store-limit store = (λ e. rw e refl, λ e. rw e refl)

@@ -214,6 +214,11 @@ put-lent-filled l bytes back at n e h =
     let filled : back ≡ pad n bytes = rw long at e in
     put-lent-whole l back at n (rw (filled, long) (length-pad n bytes)) h ∙ ap (put l at) filled
 
+-- the first n bytes of what `&l[at..]` lends
+pub part-lent-tail : (l : List ℕ) (at n : ℕ) → take n (midOf at (length l - at) l) ≡ part l at n
+unfolding part
+part-lent-tail l at n = rw rest-lent
+
 -- bytes that fit are copied, and the rest is cleared
 
 pub take-fits : (n : ℕ) (l : List ℕ) → take (min n (length l)) l ≡ take n l
