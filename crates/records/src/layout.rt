@@ -3,6 +3,7 @@ use model::record::Record;
 use moves::copy;
 use moves::put_at;
 ghost use mathlib.Core.Path.{_≡_};
+ghost use mathlib.Core.Bool.{true};
 ghost use Prim.Native.Nat.{_+_, _≤_};
 ghost use lib.ListN.{length};
 ghost use Rattle.moves.specs.Parts.{part};
@@ -81,4 +82,18 @@ pub fn new_record(ready: u8, read_only: u8) -> Record
         ready: ready,
         read_only: read_only,
     }
+}
+
+// Whether two senses are the same.
+pub fn same_sense(a: [u8; 24], b: [u8; 24]) -> bool
+    ensures { λ r. ⌜ (r ≡ true → a ≡ b) × (a ≡ b → r ≡ true) ⌝ }
+{
+    check::same(&a, &b)
+}
+
+// Whether two counts of three bytes are the same.
+pub fn same_count(x: [u8; 3], y: [u8; 3]) -> bool
+    ensures { λ r. ⌜ (r ≡ true → x ≡ y) × (x ≡ y → r ≡ true) ⌝ }
+{
+    check::same(&x, &y)
 }

@@ -17,7 +17,7 @@
 //
 // A line has the vector's number, the call's cause, the commands reached, for each of these its
 // answer (both statuses, residual, cause and a zero, blocks moved; hexadecimal, so that cause 20 is
-// 14), sense bytes 0, 1 and 7, and what was to be shown. Counts are blocks read, blocks written with
+// 14), sense bytes 0, 1 and 7, of a refused call whether the record was kept, and what was to be shown. Counts are blocks read, blocks written with
 // check, access movements.
 mod calls;
 mod ccws;

@@ -6,6 +6,8 @@ use crate::words;
 use crate::words::Vector;
 use lent::Ran;
 use model::record::Record;
+use records::layout::same_count;
+use records::layout::same_sense;
 
 // The settings of a vector, each a bit; two bits more say which store (`store_bytes`).
 const NOT_READY: u64 = 0x01;
@@ -149,31 +151,52 @@ fn shows(v: Vector, table: &[u64], unit: Record, storage: &[u8], store: &[u8], a
     show::text(b"\n");
 }
 
+// Whether a run left sense and counts of blocks as they were.
+fn kept(before: Record, after: Record) -> bool {
+    if !same_sense(before.sense, after.sense) {
+        return false;
+    }
+    if !same_count(before.blocks_read, after.blocks_read) {
+        return false;
+    }
+    same_count(before.blocks_written, after.blocks_written)
+}
+
 // The vector's line.
-fn tell(id: Id, v: Vector, table: &[u64], ran: Ran, storage: &[u8], store: &[u8], answers: &[u8]) {
+fn tell(
+    id: Id,
+    v: Vector,
+    table: &[u64],
+    before: Record,
+    ran: Ran,
+    storage: &[u8],
+    store: &[u8],
+    answers: &[u8],
+) {
     show::decimal(id.group);
     show::labelled(b".", id.number);
     show::line(ran, answers);
+    let after = ran.unit;
+    show::refused(ran.code, kept(before, after));
     let unit = ran.unit;
     shows(v, table, unit, storage, store, answers);
 }
 
-// Runs one vector; `left` is the record that the one before it left.
+// Runs one vector on this record.
 fn played(
     v: Vector,
     table: &[u64],
-    left: Record,
+    unit: Record,
     chain: &mut [u8],
     storage: &mut [u8],
     store: &mut [u8],
     answers: &mut [u8],
 ) -> Ran {
-    let unit = start(left, v.setting);
     lay(v, table, chain, storage, store, answers);
     run(unit, v, chain, storage, store, answers)
 }
 
-// Runs one vector and prints its line. It returns the record that the vector leaves.
+// Runs one vector and prints its line; `left` is the record that the one before it left. It returns the record that the vector leaves.
 fn one(
     id: Id,
     v: Vector,
@@ -184,8 +207,9 @@ fn one(
     store: &mut [u8],
     answers: &mut [u8],
 ) -> Record {
-    let ran = played(v, table, left, chain, storage, store, answers);
-    tell(id, v, table, ran, storage, store, answers);
+    let before = start(left, v.setting);
+    let ran = played(v, table, before, chain, storage, store, answers);
+    tell(id, v, table, before, ran, storage, store, answers);
     ran.unit
 }
 

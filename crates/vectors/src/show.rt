@@ -120,6 +120,18 @@ pub fn line(ran: Ran, s: &[u8]) {
     sense(unit);
 }
 
+// Of a call that was refused as a whole: whether its record is as it was.
+pub fn refused(code: u32, kept: bool) {
+    if code < 256 {
+        return;
+    }
+    if kept {
+        text(b" record=kept");
+    } else {
+        text(b" record=changed");
+    }
+}
+
 // The place that a word of a vector's last part names.
 pub fn shown(w: u64, unit: Record, storage: &[u8], store: &[u8], answers: &[u8]) {
     let from = (w / 0x10000 % 0x10000) as usize;
