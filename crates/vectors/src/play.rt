@@ -151,15 +151,16 @@ fn shows(v: Vector, table: &[u64], unit: Record, storage: &[u8], store: &[u8], a
     show::text(b"\n");
 }
 
-// Whether a run left sense and counts of blocks as they were.
+// Whether a run left sense and the count of blocks read as they were.
 fn kept(before: Record, after: Record) -> bool {
-    if !same_sense(before.sense, after.sense) {
+    let sense = before.sense;
+    let left = after.sense;
+    if !same_sense(sense, left) {
         return false;
     }
-    if !same_count(before.blocks_read, after.blocks_read) {
-        return false;
-    }
-    same_count(before.blocks_written, after.blocks_written)
+    let read = before.blocks_read;
+    let more = after.blocks_read;
+    same_count(read, more)
 }
 
 // The vector's line.
