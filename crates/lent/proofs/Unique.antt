@@ -1,5 +1,6 @@
 -- A promise determines its result: two results that it allows are equal. One theorem for each form that a promise takes.
 --     same-by         a result that is named, `r ≡ f x`: most functions, and the call with every buffer in one record
+--     told-unique     a test that is true exactly where a fact holds
 --     out-unique      a command's answer with the two storages, `out r main store ≡ ..`
 --     defined-unique, location-unique   an answer that is known by its number
 --     status-unique, channel-unique     a status that is known by its byte
@@ -7,6 +8,7 @@
 -- docs/PROOFS.md lists which function has which form. Assumes nothing.
 use Prim.Native.Nat.{ℕ}
 use mathlib.Core.Path.{_≡_, refl, sym, ap, _∙_}
+use mathlib.Core.Bool.{Bool, true, false}
 use mathlib.Core.List.{List}
 use lib.Dec.{eqb}
 use Rattle.model.specs.declared.record.Record.{Record}
@@ -25,6 +27,12 @@ use Rattle.lent.specs.Run.{Outcome, After, Made}
 
 pub same-by : {A : Type 0} (x y z : A) → x ≡ z → y ≡ z → x ≡ y
 same-by x y z p q = p ∙ sym q
+
+pub told-unique : (P : Type 0) (a b : Bool) → (a ≡ true → P) × (P → a ≡ true) → (b ≡ true → P) × (P → b ≡ true) → a ≡ b
+told-unique P true true f g = refl
+told-unique P true false f g = sym (g .1 (f .0 refl))
+told-unique P false true f g = f .1 (g .0 refl)
+told-unique P false false f g = refl
 
 pub record SameOut (d e : Done) (main main′ store store′ : List ℕ) : Type 0 where
   pub done-same : d ≡ e
