@@ -1,7 +1,7 @@
-// How one command is done.
-pub mod blocks;
-pub mod controls;
-pub mod refusal;
-pub mod senses;
+// How one command is done. `step::step` is the way in; the others are its parts.
+mod blocks;
+mod controls;
+mod refusal;
+mod senses;
 pub mod step;
-pub mod transfer;
+mod transfer;
