@@ -23,7 +23,7 @@ use Rattle.model.specs.declared.state.State.{State}
 use Rattle.model.specs.declared.state.Done.{Done}
 use Rattle.model.specs.Names.{NO-OPERATION, DEFINE-EXTENT, LOCATE, READ, WRITE, READ-IPL, format-at, parameters-at}
 use Rattle.model.specs.Rules.{_<?_, _=?_, pick, Rule, _when_, firstOf}
-use Rattle.model.specs.Lent.{ccwAt, fetched, delivered, blockStart, blockCount, blocksFrom, blocksInto}
+use Rattle.model.specs.Lent.{ccwAt, fetched, delivered, blockStart, blockCount, blockAt, blocksFrom, blocksInto}
 use Rattle.model.specs.Parameters.{extentLength, locateLength, reads, writes}
 use Rattle.model.specs.Causes.{channelCauses, unitCauses, extentCauses, defineExtentCauses, permissionCauses, locationCauses, locateCauses, readIplCauses, transferCauses, ownCauses, causesOf, verdict}
 use Rattle.model.specs.Sense.{SenseRow, senseTable, rowIn, senseOf}
@@ -210,7 +210,7 @@ verdict-small size c s main store =
 -- blocks
 
 blocks-from-bytes : (size : ℕ) (store : List ℕ) (block n : ℕ) → AreBytes store → AreBytes (blocksFrom size store block n)
-unfolding blocksFrom
+unfolding blocksFrom blockAt
 blocks-from-bytes size store block zero b = bytes-nil
 blocks-from-bytes size store block (suc n) b = bytes-append _ _ (bytes-part store _ size b) (blocks-from-bytes size store (block + 1) n b)
 

@@ -10,6 +10,10 @@ pub mod Fields
 pub mod Kept
 pub mod Records
 pub mod Hosts
+pub mod Alike
+pub mod AlikeVerdicts
+pub mod AlikeCommands
+pub mod MovedRun
 pub mod Opened
 pub mod Inputs
 pub mod Worked

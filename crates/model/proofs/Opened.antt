@@ -4,7 +4,7 @@ use Prim.Native.Nat.{ℕ}
 use Rattle.numbers.specs.Bits.{bit, anyBit}
 use Rattle.moves.specs.Parts.{zeros, part, put, pad}
 use Rattle.model.specs.Rules.{pick, oneOf, firstOf}
-use Rattle.model.specs.Lent.{ccwAt, flag, fetched, delivered, blockStart, blockCount, blocksFrom, blocksInto, recordBytes, recordOf, newRecord}
+use Rattle.model.specs.Lent.{ccwAt, flag, fetched, delivered, blockStart, blockCount, blockAt, blocksFrom, blocksInto, recordBytes, recordOf, newRecord}
 use Rattle.model.specs.Parameters.{extentIn, reservedIn, sizeIn, locatedIn, modifiersIn, replicationIn, processed, forbids, address, outside}
 use Rattle.model.specs.Causes.{allChained, callCauses, hostCauses, channelCauses, programCheck, unitCauses, extentCauses, defineExtentCauses, permissionCauses, locationCauses, locateCauses, readIplCauses, transferCauses, ownCauses, causesOf, verdict}
 use Rattle.model.specs.Sense.{rowIn, senseOf}
@@ -15,5 +15,5 @@ use Rattle.model.specs.Chain.{stepAt, next, more, run, start, callOf}
 use Rattle.model.specs.Host.{resultOf, hostCallOf}
 
 unfoldable pub opened : ℕ
-unfolding bit anyBit zeros part put pad pick oneOf firstOf ccwAt flag fetched delivered blockStart blockCount blocksFrom blocksInto recordBytes recordOf newRecord extentIn reservedIn sizeIn locatedIn modifiersIn replicationIn processed forbids address outside allChained callCauses hostCauses channelCauses programCheck unitCauses defineExtentCauses extentCauses locateCauses locationCauses permissionCauses readIplCauses transferCauses ownCauses causesOf verdict rowIn senseOf withSense withCounts added3 added2 readCounted writtenCounted movementCounted logOf logReset after extentSet locateSet noOperation defineExtent locate sent sense senseType readLog begun read write wholeDevice readIpl accepted refusal refused seen decided step unitStatus wrongLength channelStatus residual answerOf goesOn stepAt next more run start callOf resultOf hostCallOf
+unfolding bit anyBit zeros part put pad pick oneOf firstOf ccwAt flag fetched delivered blockStart blockCount blockAt blocksFrom blocksInto recordBytes recordOf newRecord extentIn reservedIn sizeIn locatedIn modifiersIn replicationIn processed forbids address outside allChained callCauses hostCauses channelCauses programCheck unitCauses defineExtentCauses extentCauses locateCauses locationCauses permissionCauses readIplCauses transferCauses ownCauses causesOf verdict rowIn senseOf withSense withCounts added3 added2 readCounted writtenCounted movementCounted logOf logReset after extentSet locateSet noOperation defineExtent locate sent sense senseType readLog begun read write wholeDevice readIpl accepted refusal refused seen decided step unitStatus wrongLength channelStatus residual answerOf goesOn stepAt next more run start callOf resultOf hostCallOf
 opened = 0

@@ -88,7 +88,7 @@ safe-after : (s : State) (u : Record) (b : Before) (blocks : ℕ) → a-locate b
 unfolding after
 safe-after s u b blocks e h = record { extent = h .extent; located = λ f. absurd (false≢true (sym e ∙ f)) }
 
-safe-seen : (c : Ccw) (s : State) (blocks : ℕ) → Safe s blocks → Safe (seen c s) blocks
+pub safe-seen : (c : Ccw) (s : State) (blocks : ℕ) → Safe s blocks → Safe (seen c s) blocks
 unfolding seen after
 safe-seen c s blocks h = record { extent = h .extent; located = h .located }
 

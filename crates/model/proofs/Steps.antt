@@ -197,7 +197,7 @@ pub record Cases (size : ℕ) (c : Ccw) (s : State) (main store : List ℕ) (P :
   pub sense-type : Admitted c main → c .command ≡ SENSE-TYPE → P (senseType c (seen c s) main store)
   pub read-log : Admitted c main → c .command ≡ READ-LOG → P (readLog c (seen c s) main store)
 
-accepted-cases : (size : ℕ) (c : Ccw) (s : State) (main store : List ℕ) (P : Out → Type 0) → Cases size c s main store P → verdict size c s main store ≡ 0 → P (accepted size c (seen c s) main store)
+pub accepted-cases : (size : ℕ) (c : Ccw) (s : State) (main store : List ℕ) (P : Out → Type 0) → Cases size c s main store P → verdict size c s main store ≡ 0 → P (accepted size c (seen c s) main store)
 unfolding channelCauses unitCauses defineExtentCauses extentCauses locateCauses locationCauses permissionCauses readIplCauses transferCauses
 accepted-cases size c s main store P k e =
     let p = past-channel size c s main store 0 refl e in

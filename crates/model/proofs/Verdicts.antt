@@ -4,6 +4,7 @@
 --     first-here, first-later, first-none
 --                   a table read line by line: the verdict is here, or in the rest, or there is none
 --     first-append  the verdict of one table after another
+--     first-same    two tables with one front have one verdict where the rests have
 --     failed-upto   a verdict that the front of a table does not give: no rule there holds, and the rest gives it
 --     none-given    where no rule holds the verdict is 0
 --     never-given   a cause that no line of a table has is not its verdict
@@ -17,6 +18,7 @@ use mathlib.Core.Bool.{Bool, true, false, not, _&&_, _||_, true≢false, false�
 use mathlib.Core.List.{List, [], _∷_, _++_, append-nil}
 use borrow.Author.Tests.{eqb-false, not-true}
 use Rattle.model.specs.Rules.{_=?_, pick, Rule, _when_, firstOf}
+use Rattle.model.proofs.Picks.{pick-both}
 
 abbrev pub Failed : List Rule → Type 0
 Failed [] = Unit {0}
@@ -69,6 +71,11 @@ failed-upto w (r ∷ rs) qs a e =
 
 pub failed-all : (w : ℕ) (rs : List Rule) → absent w rs ≡ true → firstOf rs ≡ w → Failed rs
 failed-all w rs a e = failed-upto w rs [] a (rw append-nil e) .0
+
+pub first-same : (rs qs ps : List Rule) → (Failed rs → firstOf qs ≡ firstOf ps) → firstOf (rs ++ qs) ≡ firstOf (rs ++ ps)
+unfolding firstOf
+first-same [] qs ps h = h tt
+first-same (r ∷ rs) qs ps h = pick-both _≡_ (r .holds) _ _ _ _ (λ _. refl) (λ b. first-same rs qs ps (λ f. h (b, f)))
 
 -- the verdict of one table after another
 pub first-append : (rs qs : List Rule) → absent 0 rs ≡ true → firstOf (rs ++ qs) ≡ pick (firstOf rs =? 0) (firstOf qs) (firstOf rs)

@@ -4,6 +4,7 @@
 --     fetched, delivered      bytes from, and to, a command's data area in main storage
 --     blockStart              where a block of the store begins; blocks are reached by this and by nothing else
 --     blockCount              the device's blocks
+--     blockAt                 the bytes of a block: what READ shows of it
 --     blocksFrom, blocksInto  some blocks from one on: as READ sees them, and as WRITE leaves them
 --     recordBytes, recordOf   the unit record and its 34 bytes
 -- `size` is the block size, 512 in every call of today. Assumes nothing.
@@ -44,10 +45,13 @@ module _ (size : ℕ) where
   unfoldable pub blockCount : List ℕ → ℕ
   blockCount store = length store / size
 
+  unfoldable pub blockAt : List ℕ → ℕ → List ℕ
+  blockAt store block = part store (blockStart block) size
+
   -- n blocks from one on, in a row
   unfoldable pub blocksFrom : List ℕ → ℕ → ℕ → List ℕ
   blocksFrom store block zero = []
-  blocksFrom store block (suc n) = part store (blockStart block) size ++ blocksFrom store (block + 1) n
+  blocksFrom store block (suc n) = blockAt store block ++ blocksFrom store (block + 1) n
 
   -- the store with n blocks from one on made of these bytes, in turn, and of zeros where they run out
   unfoldable pub blocksInto : List ℕ → ℕ → ℕ → List ℕ → List ℕ

@@ -10,3 +10,4 @@ pub mod Answer
 pub mod Chain
 pub mod Host
 pub mod Safe
+pub mod Moved

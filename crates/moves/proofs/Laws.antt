@@ -3,13 +3,14 @@
 use Prim.Native.Nat.{ℕ, zero, suc, _+_, _-_, _≤_, _<_, min}
 use native.Mathlib.Nat.{zero-add, add-zero, suc-add, add-assoc, zero-min, min-zero, suc-min-suc, sub-zero, zero-sub, suc-sub-suc}
 use mathlib.Core.Path.{_≡_, refl, sym, ap, _∙_}
+use mathlib.Core.Logic.{_⊎_, inl, inr, ⊎-elim}
 use mathlib.Core.Bool.{Bool, true, false}
 use mathlib.Core.List.{List, [], _∷_, _++_, append-assoc, append-nil}
 use native.Mathlib.Numerals.{add-one}
 use native.Mathlib.Omega.{arith}
 use lib.Dec.{ltb}
 use lib.ListN.{length, getD, set, take, drop, replicate, length-append, length-take, length-drop, length-replicate, take-append-drop, drop-of-length-le, List·getD-append}
-use lib.Seq.{length-take-le, take-length, take-all, drop-nil, drop-length, drop-drop, drop-cons, drop-append-le, take-add, take-at, drop-at, getD-take, getD-drop, getD-append-add}
+use lib.Seq.{ext-getD, length-take-le, take-length, take-all, drop-nil, drop-length, drop-drop, drop-cons, drop-append-le, take-add, take-at, drop-at, getD-take, getD-drop, getD-append-add}
 use borrow.Author.Fill.{fill-more}
 use borrow.Author.Tests.{ltb-true, ltb-false}
 use borrow.Rule.Slice.PartMut.{midOf, putMid, mid-len, post-is}
@@ -100,6 +101,34 @@ pub get-part : (l : List ℕ) (at n i : ℕ) → i < n → getD (part l at n) i 
 unfolding part
 get-part l at n i h = getD-take n (drop at l) i 0 h ∙ getD-drop at l i 0
 
+-- a part that was put between two others
+pub part-between : (p q r : List ℕ) (at n : ℕ) → length p ≡ at → length q ≡ n → part (p ++ (q ++ r)) at n ≡ q
+unfolding part
+part-between p q r at n e f = rw (drop-at p (q ++ r) at e) (take-at q r n f)
+
+part-length : (l : List ℕ) (at n : ℕ) → length (part l at n) ≡ min n (length l - at)
+unfolding part
+part-length l at n = simp (length-take, length-drop) (omega arith)
+
+-- two lists of one length that agree on a part
+pub part-same : (l k : List ℕ) (at n : ℕ) → length l ≡ length k → ((i : ℕ) → i < n → getD l (at + i) 0 ≡ getD k (at + i) 0) → part l at n ≡ part k at n
+part-same l k at n e h =
+    let long : (m : List ℕ) → length (part m at n) ≡ min n (length m - at) = λ m. part-length m at n in
+    ext-getD 0 _ _ (long l ∙ rw e (sym (long k)))
+    (λ i b.
+        let j : i < n = omega (arith, long l) in
+        get-part l at n i j ∙ h i j ∙ sym (get-part k at n i j))
+
+-- a part apart from the bytes that were put, and the part that they are
+pub part-apart : (l : List ℕ) (at : ℕ) (bytes : List ℕ) (from n : ℕ) → at + length bytes ≤ length l → (from + n ≤ at) ⊎ (at + length bytes ≤ from) → part (put l at bytes) from n ≡ part l from n
+part-apart l at bytes from n h d =
+    part-same (put l at bytes) l from n (length-put l at bytes h)
+    (λ i b. ⊎-elim (λ k. get-before l at bytes (from + i) h (omega arith)) (λ k. get-after l at bytes (from + i) h (omega arith)) d)
+
+pub part-put : (l : List ℕ) (at : ℕ) (bytes : List ℕ) → at + length bytes ≤ length l → part (put l at bytes) at (length bytes) ≡ bytes
+unfolding put
+part-put l at bytes h = rw append-assoc (part-between (take at l) bytes _ at (length bytes) (length-take-le at l (omega arith)) refl)
+
 -- past the bytes that were given a padded list reads zero, as `getD` does
 pub get-pad : (n : ℕ) (bytes : List ℕ) (i : ℕ) → i < n → getD (pad n bytes) i 0 ≡ getD bytes i 0
 get-pad zero bytes i h = absurd (omega arith)
@@ -107,11 +136,6 @@ get-pad (suc n) [] zero h = rw pad-nil
 get-pad (suc n) [] (suc i) h = rw pad-nil (get-pad n [] i (omega arith))
 get-pad (suc n) (b ∷ bytes) zero h = rw pad-cons
 get-pad (suc n) (b ∷ bytes) (suc i) h = rw pad-cons (get-pad n bytes i (omega arith))
-
--- a part that was put between two others
-pub part-between : (p q r : List ℕ) (at n : ℕ) → length p ≡ at → length q ≡ n → part (p ++ (q ++ r)) at n ≡ q
-unfolding part
-part-between p q r at n e f = rw (drop-at p (q ++ r) at e) (take-at q r n f)
 
 -- what stands before a part, and the part
 pub take-part : (l : List ℕ) (at n : ℕ) → take at l ++ part l at n ≡ take (at + n) l

@@ -1,0 +1,192 @@
+-- Demand 3, the relation: what two runs of one chain have in common between any two commands, where a data set was moved.
+--     Place     where the parameters stand, the two extents, and the two stores as they were lent
+--     States    the states are equal but for the extent's offset
+--     Mains     main storage is equal but for the offset's four bytes, and the parameters are still there
+--     Stores    the extent's blocks are equal, and no block outside it has changed
+--     Outs      all three, and the numbers of the answer
+-- Below them, that each is kept: by a record and a command before, by bytes put into main storage, by blocks written.
+-- No contract cites this file.
+use Prim.Native.Nat.{ℕ, _+_, _-_, _*_, _≤_, _<_}
+use mathlib.Core.Path.{_≡_, refl, sym, ap, _∙_}
+use mathlib.Core.Logic.{_⊎_, inl, inr, ⊎-elim}
+use mathlib.Core.Bool.{Bool, true, false}
+use mathlib.Core.List.{List}
+use lib.ListN.{length, getD}
+use native.Mathlib.Omega.{arith}
+use native.Mathlib.Nat.{add-comm, add-assoc}
+use Rattle.moves.specs.Parts.{part, put}
+use Rattle.moves.proofs.Laws.{length-put, get-before, get-in, get-after, by-place, part-same, part-apart}
+use Rattle.model.specs.declared.ccw.Ccw.{Ccw}
+use Rattle.model.specs.declared.extent.Displacement.{Displacement}
+use Rattle.model.specs.declared.extent.Extent.{Extent}
+use Rattle.model.specs.declared.extent.Located.{Located}
+use Rattle.model.specs.declared.record.Record.{Record}
+use Rattle.model.specs.declared.state.Before.{Before}
+use Rattle.model.specs.declared.state.State.{State}
+use Rattle.model.specs.declared.state.Done.{Done}
+use Rattle.model.specs.Lent.{fetched, delivered, blockCount, blockAt, blocksFrom, blocksInto}
+use Rattle.model.specs.Parameters.{extentLength, extentIn, address}
+use Rattle.model.specs.Commands.{Out, after}
+use Rattle.model.specs.Safe.{InExtent}
+use Rattle.model.specs.Moved.{Among, Ordered, SameBut, HasRoom, SameData, KeptOutside}
+use Rattle.model.proofs.Lengths.{blocks-into-length, in-store}
+use Rattle.model.proofs.Blocks.{blocks-from-same, block-kept, block-stored}
+
+pub record Place : Type 0 where
+  pub at : ℕ
+  pub here : Extent
+  pub there : Extent
+  pub store : List ℕ
+  pub store′ : List ℕ
+
+-- what holds of a place throughout
+pub record Sound (size : ℕ) (F : Place) : Type 0 where
+  pub mask : F .here .mask ≡ F .there .mask
+  pub first : F .here .first ≡ F .there .first
+  pub last : F .here .last ≡ F .there .last
+  pub order : Ordered (F .here)
+  pub sizes : length (F .store) ≡ length (F .store′)
+  pub room : HasRoom size (F .here) (F .store)
+  pub room′ : HasRoom size (F .there) (F .store′)
+
+pub record States (F : Place) (s t : State) : Type 0 where
+  pub unit : s .unit ≡ t .unit
+  pub defined : s .defined ≡ t .defined
+  pub before : s .before ≡ t .before
+  pub located : s .located ≡ t .located
+  pub mask : s .extent .mask ≡ t .extent .mask
+  pub first : s .extent .first ≡ t .extent .first
+  pub last : s .extent .last ≡ t .extent .last
+  pub set : s .defined ≡ true → (s .extent ≡ F .here) × (t .extent ≡ F .there)
+
+pub record Mains (F : Place) (m n : List ℕ) : Type 0 where
+  pub but : SameBut (F .at + 4) 4 m n
+  pub held : F .at + extentLength ≤ length m
+  pub here : extentIn (part m (F .at) extentLength) ≡ F .here
+  pub there : extentIn (part n (F .at) extentLength) ≡ F .there
+
+pub record Stores (size : ℕ) (F : Place) (x y : List ℕ) : Type 0 where
+  pub long : length x ≡ length (F .store)
+  pub long′ : length y ≡ length (F .store′)
+  pub same : SameData size (F .here) (F .there) x y
+  pub kept : KeptOutside size (F .here) (F .store) x
+  pub kept′ : KeptOutside size (F .there) (F .store′) y
+
+pub record Dones (F : Place) (d e : Done) : Type 0 where
+  pub cause : d .cause ≡ e .cause
+  pub moved : d .moved ≡ e .moved
+  pub can : d .can ≡ e .can
+  pub blocks : d .blocks ≡ e .blocks
+  pub states : States F (d .state) (e .state)
+
+pub record Outs (size : ℕ) (F : Place) (o p : Out) : Type 0 where
+  pub dones : Dones F (o .done) (p .done)
+  pub mains : Mains F (o .main) (p .main)
+  pub stores : Stores size F (o .store) (p .store)
+
+-- the state
+
+pub states-after : (F : Place) (s t : State) (u v : Record) (b d : Before) → u ≡ v → b ≡ d → States F s t → States F (after s u b) (after t v d)
+unfolding after
+states-after F s t u v b d e f r = record { unit = e; defined = r .defined; before = f; located = r .located; mask = r .mask; first = r .first; last = r .last; set = r .set }
+
+-- main storage
+
+-- a data area of some bytes that has none of the parameters' lies before them or behind
+pub sides : (a n p m : ℕ) → 0 < n → 0 < m → ((k : ℕ) → Among a n k → Among p m k → ⊥) → (a + n ≤ p) ⊎ (p + m ≤ a)
+sides a n p m h g none =
+    let Q : Type 0 = (a + n ≤ p) ⊎ (p + m ≤ a) in
+    by-place Q a p m
+    (λ l. by-place Q p a n (λ k. absurd (omega arith)) (λ j b e. absurd (none p (omega arith, omega arith) (omega arith, omega arith))) (λ k. inl k))
+    (λ j b e. absurd (none a (omega arith, omega arith) (omega arith, omega arith)))
+    (λ l. inr l)
+
+-- bytes apart from the parameters are the same in both
+pub mains-part : (F : Place) (m m′ : List ℕ) (a n : ℕ) → (a + n ≤ F .at) ⊎ (F .at + extentLength ≤ a) → Mains F m m′ → part m a n ≡ part m′ a n
+mains-part F m m′ a n d g = part-same m m′ a n (g .but .long) (λ i b. g .but .same (a + i) (λ k. ⊎-elim (λ x. omega (arith, k)) (λ x. omega (arith, k)) d))
+
+pub mains-put : (F : Place) (m m′ : List ℕ) (a : ℕ) (bytes : List ℕ) → a + length bytes ≤ length m → (a + length bytes ≤ F .at) ⊎ (F .at + extentLength ≤ a) → Mains F m m′ → Mains F (put m a bytes) (put m′ a bytes)
+mains-put F m m′ a bytes h d g =
+    let h′ : a + length bytes ≤ length m′ = omega (arith, g .but .long) in
+    let apart : (F .at + extentLength ≤ a) ⊎ (a + length bytes ≤ F .at) = ⊎-elim inr inl d in
+    record {
+      but = record {
+        long = length-put m a bytes h ∙ g .but .long ∙ sym (length-put m′ a bytes h′);
+        same = λ i n. by-place (getD (put m a bytes) i 0 ≡ getD (put m′ a bytes) i 0) i a (length bytes)
+            (λ k. get-before m a bytes i h k ∙ g .but .same i n ∙ sym (get-before m′ a bytes i h′ k))
+            (λ j k e. rw e (get-in m a bytes j h k ∙ sym (get-in m′ a bytes j h′ k)))
+            (λ k. get-after m a bytes i h k ∙ g .but .same i n ∙ sym (get-after m′ a bytes i h′ k));
+      };
+      held = rw (length-put m a bytes h) (g .held);
+      here = rw (part-apart m a bytes (F .at) extentLength h apart) (g .here);
+      there = rw (part-apart m′ a bytes (F .at) extentLength h′ apart) (g .there);
+    }
+
+-- the store
+
+pub count-same : (size : ℕ) (x y : List ℕ) → length x ≡ length y → blockCount size x ≡ blockCount size y
+unfolding blockCount
+count-same size x y e = rw e
+
+-- where the blocks of a LOCATE lie in an extent of the device
+record Lies (size : ℕ) (e : Extent) (l : Located) (x : List ℕ) (k : ℕ) : Type 0 where
+  pub base : (i : ℕ) → address e (l .displacement) + i ≡ e .offset .0 + (k + i)
+  pub within : k + l .blocks ≤ e .last .0 - e .first .0 + 1
+  pub fits : (address e (l .displacement) + l .blocks) * size ≤ length x
+
+lies : (size : ℕ) (e : Extent) (l : Located) (x : List ℕ) (k : ℕ) → k ≡ l .displacement .0 - e .first .0 → InExtent e l → Ordered e → HasRoom size e x → Lies size e l x k
+unfolding address
+lies size e l x k f h o r = record {
+  base = λ i. omega (arith, f);
+  within = omega (arith, f, h .from-first, h .to-last);
+  fits = in-store size x _ (omega (arith, h .from-first, h .to-last, h .some));
+}
+
+-- blocks written over an extent's own leave those outside it
+kept-write : (size : ℕ) (e : Extent) (l : Located) (store x bytes : List ℕ) (k : ℕ) → Lies size e l x k → KeptOutside size e store x → KeptOutside size e store (blocksInto size x (address e (l .displacement)) (l .blocks) bytes)
+kept-write size e l store x bytes k h o n d =
+    let b = h .base 0 in
+    block-kept size x _ (l .blocks) bytes n (h .fits) (⊎-elim (λ y. inl (omega (arith, b))) (λ y. inr (omega (arith, b, h .within))) d) ∙ o n d
+
+module _ (size : ℕ) (F : Place) (k : Sound size F) (l : Located) (x y : List ℕ) (h : InExtent (F .here) l) (g : Stores size F x y) where
+  h′ : InExtent (F .there) l
+  h′ = record { some = h .some; from-first = rw (← (k .first)) (h .from-first); to-last = rw (← (k .last)) (h .to-last) }
+
+  from : ℕ
+  from = l .displacement .0 - F .here .first .0
+
+  lies-here : Lies size (F .here) l x from
+  unfolding from
+  lies-here = lies size (F .here) l x from refl h (k .order) (rw (count-same size x (F .store) (g .long)) (k .room))
+
+  lies-there : Lies size (F .there) l y from
+  unfolding from
+  lies-there =
+      let order : Ordered (F .there) = rw (← (k .first), ← (k .last)) (k .order) in
+      let room : HasRoom size (F .there) y = rw (count-same size y (F .store′) (g .long′)) (k .room′) in
+      lies size (F .there) l y from (ap (λ (d : Displacement). l .displacement .0 - d .0) (k .first)) h′ order room
+
+  pub stores-read : blocksFrom size x (address (F .here) (l .displacement)) (l .blocks) ≡ blocksFrom size y (address (F .there) (l .displacement)) (l .blocks)
+  stores-read = blocks-from-same size x y _ _ (l .blocks) (λ i b. rw (lies-here .base i, lies-there .base i) (g .same (from + i) (omega (arith, lies-here .within))))
+
+  pub stores-write : (bytes : List ℕ) → Stores size F (blocksInto size x (address (F .here) (l .displacement)) (l .blocks) bytes) (blocksInto size y (address (F .there) (l .displacement)) (l .blocks) bytes)
+  stores-write bytes =
+      let a : ℕ = address (F .here) (l .displacement) in
+      let b : ℕ = address (F .there) (l .displacement) in
+      record {
+        long = blocks-into-length size x a (l .blocks) bytes (lies-here .fits) ∙ g .long;
+        long′ = blocks-into-length size y b (l .blocks) bytes (lies-there .fits) ∙ g .long′;
+        same = λ i d.
+            let Q : Type 0 = blockAt size (blocksInto size x a (l .blocks) bytes) (F .here .offset .0 + i) ≡ blockAt size (blocksInto size y b (l .blocks) bytes) (F .there .offset .0 + i) in
+            let a0 = lies-here .base 0 in
+            let b0 = lies-there .base 0 in
+            let other : (i < from) ⊎ (from + l .blocks ≤ i) → Q = λ w.
+                block-kept size x a (l .blocks) bytes _ (lies-here .fits) (⊎-elim (λ z. inl (omega (arith, a0))) (λ z. inr (omega (arith, a0))) w)
+                ∙ g .same i d
+                ∙ sym (block-kept size y b (l .blocks) bytes _ (lies-there .fits) (⊎-elim (λ z. inl (omega (arith, b0))) (λ z. inr (omega (arith, b0))) w)) in
+            by-place Q i from (l .blocks) (λ z. other (inl z))
+            (λ j z e. rw (e, ← (lies-here .base j), ← (lies-there .base j)) (block-stored size x a (l .blocks) bytes j (lies-here .fits) z ∙ sym (block-stored size y b (l .blocks) bytes j (lies-there .fits) z)))
+            (λ z. other (inr z));
+        kept = kept-write size (F .here) l (F .store) x bytes from lies-here (g .kept);
+        kept′ = kept-write size (F .there) l (F .store′) y bytes from lies-there (g .kept′);
+      }

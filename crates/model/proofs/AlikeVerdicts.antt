@@ -1,0 +1,138 @@
+-- Demand 3, the verdicts: in two runs that are alike a command is given one cause.
+--     Fits            what the demand says of one CCW: it is the DEFINE EXTENT, or its data area lies apart from the parameters
+--     fetched-same    the bytes that a command fetches from its data area are the same in both runs
+--     define-same, locate-same, transfer-same
+--                     the verdict of each command's own table is the same
+--     verdict-same    so is that of all of them
+-- No contract cites this file.
+use Prim.Native.Nat.{ℕ, _+_, _-_, _≤_, _<_}
+use mathlib.Core.Path.{_≡_, refl, sym, ap, _∙_}
+use mathlib.Core.Logic.{_⊎_, inl, inr, ⊎-elim}
+use mathlib.Core.Bool.{Bool, true, false, not}
+use mathlib.Core.List.{List, [], _∷_, _++_}
+use lib.ListN.{length, getD}
+use native.Mathlib.Omega.{arith}
+use borrow.Author.Tests.{eqb-true, eqb-false, ltb-false, lt-ltb, eq-eqb}
+use Rattle.moves.specs.Parts.{part}
+use Rattle.moves.proofs.Laws.{get-part}
+use Rattle.model.specs.declared.ccw.Ccw.{Ccw}
+use Rattle.model.specs.declared.extent.Extent.{Extent}
+use Rattle.model.specs.declared.record.Record.{Record}
+use Rattle.model.specs.declared.state.State.{State}
+use Rattle.model.specs.Names.{DEFINE-EXTENT, LOCATE, READ, WRITE, READ-IPL}
+use Rattle.model.specs.Rules.{_<?_, _=?_, pick, Rule, _when_, firstOf}
+use Rattle.model.specs.Lent.{fetched, blockCount}
+use Rattle.model.specs.Parameters.{extentLength, extentIn, reservedIn, sizeIn, locateLength, address, outside, reads, writes}
+use Rattle.model.specs.Causes.{channelCauses, unitCauses, extentCauses, defineExtentCauses, permissionCauses, locationCauses, locateCauses, transferCauses, ownCauses, causesOf, verdict}
+use Rattle.model.specs.Moved.{Among}
+use Rattle.model.proofs.Picks.{pick-both}
+use Rattle.model.proofs.Verdicts.{Failed, first-same}
+use Rattle.model.proofs.Alike.{Place, Sound, States, Mains, Stores, sides, mains-part, count-same}
+
+pub record Fits (F : Place) (c : Ccw) : Type 0 where
+  pub own : c .command ≡ DEFINE-EXTENT → c .address ≡ F .at
+  pub apart : (c .command ≡ DEFINE-EXTENT → ⊥) → (k : ℕ) → Among (c .address) (c .count) k → Among (F .at) extentLength k → ⊥
+  pub no-ipl : c .command ≡ READ-IPL → ⊥
+
+-- the first n bytes of another command's data area lie on one side of the parameters
+pub area : (F : Place) (c : Ccw) (n : ℕ) → Fits F c → (c .command ≡ DEFINE-EXTENT → ⊥) → 0 < c .count → n ≤ c .count → (c .address + n ≤ F .at) ⊎ (F .at + extentLength ≤ c .address)
+area F c n f o z h = ⊎-elim (λ x. inl (omega arith)) inr (sides (c .address) (c .count) (F .at) extentLength z (omega arith) (f .apart o))
+
+module _ (F : Place) (c : Ccw) (m m′ : List ℕ) (f : Fits F c) (g : Mains F m m′) where
+  pub fetched-same : (n : ℕ) → (c .command ≡ DEFINE-EXTENT → ⊥) → 0 < c .count → n ≤ c .count → fetched c m n ≡ fetched c m′ n
+  unfolding fetched
+  fetched-same n o z h = mains-part F m m′ (c .address) n (area F c n f o z h) g
+
+  -- the parameters of the DEFINE EXTENT: the two extents, and the same bytes but for the offset
+  pub extent-here : c .command ≡ DEFINE-EXTENT → extentIn (fetched c m extentLength) ≡ F .here
+  unfolding fetched
+  extent-here e = rw (f .own e) (g .here)
+
+  pub extent-there : c .command ≡ DEFINE-EXTENT → extentIn (fetched c m′ extentLength) ≡ F .there
+  unfolding fetched
+  extent-there e = rw (f .own e) (g .there)
+
+  byte-same : c .command ≡ DEFINE-EXTENT → (i : ℕ) → i < 4 → getD (fetched c m extentLength) i 0 ≡ getD (fetched c m′ extentLength) i 0
+  unfolding fetched
+  byte-same e i b =
+      let j : i < extentLength = omega arith in
+      get-part m (c .address) extentLength i j
+      ∙ rw (f .own e) (g .but .same (F .at + i) (λ k. omega (arith, k)))
+      ∙ sym (get-part m′ (c .address) extentLength i j)
+
+  reserved-same : c .command ≡ DEFINE-EXTENT → reservedIn (fetched c m extentLength) ≡ reservedIn (fetched c m′ extentLength)
+  unfolding reservedIn
+  reserved-same e = byte-same e 1 (omega arith)
+
+  size-same : c .command ≡ DEFINE-EXTENT → sizeIn (fetched c m extentLength) ≡ sizeIn (fetched c m′ extentLength)
+  unfolding sizeIn
+  size-same e = rw (byte-same e 2 (omega arith), byte-same e 3 (omega arith))
+
+-- each command's own table
+
+last-inside : (e : Extent) (n : ℕ) → e .offset .0 + (e .last .0 - e .first .0) < n → address e (e .last) <? n ≡ true
+unfolding address
+last-inside e n h = lt-ltb (e .last .0 - e .first .0 + e .offset .0) n (omega arith)
+
+extent-same : (size n : ℕ) (p p′ : List ℕ) (e e′ : Extent) → extentIn p ≡ e → extentIn p′ ≡ e′ → e .mask ≡ e′ .mask → e .first ≡ e′ .first → e .last ≡ e′ .last
+    → reservedIn p ≡ reservedIn p′ → sizeIn p ≡ sizeIn p′ → address e (e .last) <? n ≡ true → address e′ (e′ .last) <? n ≡ true
+    → extentCauses size n p ≡ extentCauses size n p′
+unfolding extentCauses
+extent-same size n p p′ e e′ a b mask first last reserved sizes in-here in-there = rw (a, b, in-here, in-there, mask, first, last, reserved, sizes)
+
+module _ (size : ℕ) (F : Place) (k : Sound size F) (c : Ccw) (f : Fits F c) (s t : State) (r : States F s t) (m m′ : List ℕ) (g : Mains F m m′) where
+  define-same : (n : ℕ) → c .command ≡ DEFINE-EXTENT → n ≡ blockCount size (F .store)
+      → defineExtentCauses size n c s (fetched c m extentLength) ≡ defineExtentCauses size n c t (fetched c m′ extentLength)
+  unfolding defineExtentCauses
+  define-same n e w =
+      let here = last-inside (F .here) n (rw w (k .room)) in
+      let there = last-inside (F .there) n (rw (w, count-same size (F .store) (F .store′) (k .sizes)) (k .room′)) in
+      let x = extent-same size n _ _ (F .here) (F .there) (extent-here F c m m′ f g e) (extent-there F c m m′ f g e) (k .mask) (k .first) (k .last)
+          (reserved-same F c m m′ f g e) (size-same F c m m′ f g e) here there in
+      rw (r .defined, x)
+
+  locate-states : (p : List ℕ) → locateCauses c s p ≡ locateCauses c t p
+  unfolding locateCauses locationCauses permissionCauses outside
+  locate-states p = rw (r .defined, r .mask, r .first, r .last, r .unit)
+
+  locate-same : c .command ≡ LOCATE → 0 < c .count → firstOf (locateCauses c s (fetched c m locateLength)) ≡ firstOf (locateCauses c t (fetched c m′ locateLength))
+  unfolding locateCauses
+  locate-same e z =
+      ap firstOf (locate-states (fetched c m locateLength))
+      ∙ first-same (30 when not (t .defined) ∷ 31 when (c .count <? locateLength) ∷ []) _ _
+      (λ w. ap (λ (p : List ℕ). firstOf (locationCauses t p)) (fetched-same F c m m′ f g locateLength (λ d. omega arith) z (ltb-false _ _ (w .1 .0))))
+
+  transfer-same : (follows : ℕ → Bool) → transferCauses follows s ≡ transferCauses follows t
+  unfolding transferCauses
+  transfer-same follows = rw (r .before, r .located)
+
+-- all the lines that can apply to a command
+
+channel-same : (F : Place) (c : Ccw) (m m′ : List ℕ) → Mains F m m′ → channelCauses c m ≡ channelCauses c m′
+unfolding channelCauses
+channel-same F c m m′ g = rw (g .but .long)
+
+unit-same : (F : Place) (c : Ccw) (s t : State) → States F s t → unitCauses c s ≡ unitCauses c t
+unfolding unitCauses
+unit-same F c s t r = rw (r .unit)
+
+some-count : (c : Ccw) (s : State) (m : List ℕ) → Failed (channelCauses c m ++ unitCauses c s) → 0 < c .count
+unfolding channelCauses unitCauses
+some-count c s m w = let none = eqb-false (c .count) 0 (w .1 .1 .0) in omega (arith, none)
+
+module _ (size : ℕ) (F : Place) (k : Sound size F) (c : Ccw) (f : Fits F c) (s t : State) (r : States F s t) (m m′ : List ℕ) (g : Mains F m m′) (x x′ : List ℕ) (h : Stores size F x x′) where
+  own-same : 0 < c .count → firstOf (ownCauses size c s m x) ≡ firstOf (ownCauses size c t m′ x′)
+  unfolding ownCauses
+  own-same z =
+      let Q : List Rule → List Rule → Type 0 = λ a b. firstOf a ≡ firstOf b in
+      let n : blockCount size x ≡ blockCount size (F .store) = count-same size x (F .store) (h .long) in
+      let n′ : blockCount size x′ ≡ blockCount size (F .store) = count-same size x′ (F .store) (h .long′ ∙ sym (k .sizes)) in
+      pick-both Q _ _ _ _ _ (λ b. rw (n, n′) (ap firstOf (define-same size F k c f s t r m m′ g _ (eqb-true _ _ b) refl))) (λ _.
+      pick-both Q _ _ _ _ _ (λ b. locate-same size F k c f s t r m m′ g (eqb-true _ _ b) z) (λ _.
+      pick-both Q _ _ _ _ _ (λ b. absurd (f .no-ipl (eqb-true _ _ b))) (λ _.
+      pick-both Q _ _ _ _ _ (λ _. ap firstOf (transfer-same size F k c f s t r m m′ g reads)) (λ _.
+      pick-both Q _ _ _ _ _ (λ _. ap firstOf (transfer-same size F k c f s t r m m′ g writes)) (λ _. refl)))))
+
+  pub verdict-same : verdict size c s m x ≡ verdict size c t m′ x′
+  unfolding verdict causesOf
+  verdict-same = rw (← (channel-same F c m m′ g), ← (unit-same F c s t r)) (first-same (channelCauses c m ++ unitCauses c s) _ _ (λ w. own-same (some-count c s m w)))

@@ -1,0 +1,184 @@
+-- Demand 3, the chain and the theorem: a data set can be moved.
+--     Alike         two systems between two commands
+--     next-alike, more-same, run-alike
+--                   a command, whether the chain goes on, the chain
+--     begin-alike   what the demand's sentences say is the relation at the start
+--     moved-same    the theorem
+-- Assumes nothing.
+use Prim.Native.Nat.{ℕ, zero, suc, _+_, _-_, _*_, _/_, _≤_, _<_}
+use mathlib.Core.Path.{_≡_, refl, sym, ap, _∙_}
+use mathlib.Core.Bool.{Bool, true, false, _&&_, false≢true}
+use mathlib.Core.List.{List}
+use lib.ListN.{length, getD}
+use native.Mathlib.Omega.{arith}
+use Rattle.moves.specs.Parts.{part, put}
+use Rattle.moves.proofs.Laws.{by-place, get-part}
+use Rattle.model.specs.declared.ccw.Ccw.{Ccw}
+use Rattle.model.specs.declared.extent.Extent.{Extent}
+use Rattle.model.specs.declared.record.Record.{Record}
+use Rattle.model.specs.declared.state.State.{State}
+use Rattle.model.specs.declared.state.Done.{Done}
+use Rattle.model.specs.Names.{DEFINE-EXTENT, chain-command}
+use Rattle.model.specs.Rules.{_=?_, pick, firstOf}
+use Rattle.model.specs.Lent.{ccwSize, ccwAt, flag, fetched, blockCount}
+use Rattle.model.specs.Parameters.{extentLength, extentIn}
+use Rattle.model.specs.Causes.{callCauses}
+use Rattle.model.specs.Commands.{Out, step}
+use Rattle.model.specs.Answer.{answerSize, wrongLength, channelStatus, residual, answerOf, goesOn}
+use Rattle.model.specs.Chain.{System, system, stepAt, next, more, run, start, Called, called, callOf}
+use Rattle.model.specs.Safe.{Safe}
+use Rattle.model.specs.Moved.{InChain, Among, extentAt, SameBut, Moved, SameAfter}
+use Rattle.model.proofs.Picks.{pick-both}
+use Rattle.model.proofs.Verdicts.{both-true}
+use Rattle.model.proofs.Safety.{safe-start, step-safe}
+use Rattle.model.proofs.Alike.{Place, Sound, States, Mains, Stores, Dones, Outs, count-same}
+use Rattle.model.proofs.AlikeVerdicts.{Fits}
+use Rattle.model.proofs.AlikeCommands.{step-alike}
+
+pub record Alike (size : ℕ) (F : Place) (y z : System) : Type 0 where
+  pub states : States F (y .state) (z .state)
+  pub mains : Mains F (y .main) (z .main)
+  pub stores : Stores size F (y .store) (z .store)
+  pub answers : y .answers ≡ z .answers
+  pub reached : y .reached ≡ z .reached
+  pub safe : Safe (y .state) (blockCount size (y .store))
+
+-- the answer
+
+channel-same : (F : Place) (c : Ccw) (d e : Done) → Dones F d e → channelStatus c d ≡ channelStatus c e
+unfolding channelStatus wrongLength
+channel-same F c d e h = rw (h .cause, h .can)
+
+answer-same : (F : Place) (c : Ccw) (d e : Done) → Dones F d e → answerOf c d ≡ answerOf c e
+unfolding answerOf residual
+answer-same F c d e h = rw (channel-same F c d e h, h .cause, h .moved, h .blocks)
+
+goes-same : (F : Place) (c : Ccw) (d e : Done) → Dones F d e → goesOn c d ≡ goesOn c e
+unfolding goesOn
+goes-same F c d e h = rw (channel-same F c d e h, h .cause)
+
+-- where the chain goes on after a CCW, that CCW has flag 40
+goes-chained : (c : Ccw) (d : Done) → goesOn c d ≡ true → flag c chain-command ≡ true
+unfolding goesOn
+goes-chained c d b = both-true (d .cause =? 0 && channelStatus c d =? 0) (flag c chain-command) b .1
+
+-- the chain
+
+module _ (size : ℕ) (F : Place) (k : Sound size F) (chain : List ℕ) (fits : (i : ℕ) → InChain chain i → Fits F (ccwAt chain i)) where
+  at-alike : (i : ℕ) (y z : System) → InChain chain i → Alike size F y z → Outs size F (stepAt size chain i y) (stepAt size chain i z)
+  unfolding stepAt
+  at-alike i y z c a = step-alike size F k (ccwAt chain i) (fits i c) _ _ (a .states) _ _ (a .mains) _ _ (a .stores) (a .safe)
+
+  -- a command leaves the state safe on the store that it leaves
+  at-safe : (i : ℕ) (y : System) (store : List ℕ) → 0 < blockCount size (y .store) → Safe (y .state) (blockCount size (y .store)) → length (y .store) ≡ length store
+      → Safe (stepAt size chain i y .done .state) (blockCount size store)
+  unfolding stepAt
+  at-safe i y store some safe long = rw (← (count-same size (y .store) store long)) (step-safe size (ccwAt chain i) (y .state) (y .main) (y .store) some safe)
+
+  next-alike : (i : ℕ) (y z : System) → InChain chain i → Alike size F y z → Alike size F (next size chain i y) (next size chain i z)
+  unfolding next
+  next-alike i y z c a =
+      let o = at-alike i y z c a in
+      let some : 0 < blockCount size (y .store) = rw (count-same size (y .store) (F .store) (a .stores .long)) (omega (arith, k .room)) in
+      record {
+        states = o .dones .states;
+        mains = o .mains;
+        stores = o .stores;
+        answers = rw (answer-same F (ccwAt chain i) _ _ (o .dones), a .answers);
+        reached = refl;
+        safe = at-safe i y _ some (a .safe) (a .stores .long ∙ sym (o .stores .long));
+      }
+
+  more-same : (i : ℕ) (y z : System) → InChain chain i → Alike size F y z → more size chain i y ≡ more size chain i z
+  unfolding more
+  more-same i y z c a = goes-same F (ccwAt chain i) _ _ (at-alike i y z c a .dones)
+
+  run-alike : (n i : ℕ) (y z : System) → i + n ≤ length chain / ccwSize → ((j : ℕ) → j < i → flag (ccwAt chain j) chain-command ≡ true) → Alike size F y z
+      → Alike size F (run size chain n i y) (run size chain n i z)
+  unfolding run more
+  run-alike zero i y z l p a = a
+  run-alike (suc n) i y z l p a =
+      let c : InChain chain i = record { lent = omega arith; chained = p } in
+      let b = next-alike i y z c a in
+      rw (← (more-same i y z c a))
+      (pick-both (Alike size F) (more size chain i y) _ _ _ _
+      (λ m. run-alike n (i + 1) (next size chain i y) (next size chain i z) (omega arith)
+          (λ j q. by-place (flag (ccwAt chain j) chain-command ≡ true) j i 1 (p j) (λ r d e. let f : j ≡ i = omega arith in rw f (goes-chained _ _ m)) (λ r. absurd (omega arith))) b)
+      (λ _. b))
+
+-- the start
+
+parameter-same : (c : Ccw) (main main′ : List ℕ) → SameBut (c .address + 4) 4 main main′ → (i : ℕ) → i < extentLength → (Among 4 4 i → ⊥) → getD (fetched c main extentLength) i 0 ≡ getD (fetched c main′ extentLength) i 0
+unfolding fetched
+parameter-same c main main′ h i b n =
+    get-part main (c .address) extentLength i b ∙ h .same (c .address + i) (λ k. n (omega (arith, k), omega (arith, k))) ∙ sym (get-part main′ (c .address) extentLength i b)
+
+-- what the two runs are about
+place : (c : Ccw) (main main′ store store′ : List ℕ) → Place
+place c main main′ store store′ = record { at = c .address; here = extentAt c main; there = extentAt c main′; store = store; store′ = store′ }
+
+module _ (size : ℕ) (chain : List ℕ) (d : ℕ) (main main′ store store′ : List ℕ) (h : Moved size chain d main main′ store store′) where
+  same-parameter : (i : ℕ) → i < extentLength → (Among 4 4 i → ⊥) → getD (fetched (ccwAt chain d) main extentLength) i 0 ≡ getD (fetched (ccwAt chain d) main′ extentLength) i 0
+  same-parameter = parameter-same (ccwAt chain d) main main′ (h .typed)
+
+  here : Place
+  here = place (ccwAt chain d) main main′ store store′
+
+  sound : Sound size here
+  unfolding here place extentIn
+  sound =
+      let far : (i : ℕ) → 8 ≤ i → Among 4 4 i → ⊥ = λ i b k. omega (arith, k) in
+      let behind : (i : ℕ) → 8 ≤ i → i < extentLength → _ = λ i b l. same-parameter i l (far i b) in
+      record {
+        mask = same-parameter 0 (omega arith) (λ k. omega (arith, k));
+        first = rw (behind 8 (omega arith) (omega arith), behind 9 (omega arith) (omega arith), behind 10 (omega arith) (omega arith), behind 11 (omega arith) (omega arith));
+        last = rw (behind 12 (omega arith) (omega arith), behind 13 (omega arith) (omega arith), behind 14 (omega arith) (omega arith), behind 15 (omega arith) (omega arith));
+        order = h .order;
+        sizes = h .sizes;
+        room = h .room;
+        room′ = h .room′;
+      }
+
+  fits : (i : ℕ) → InChain chain i → Fits here (ccwAt chain i)
+  unfolding here place
+  fits i c = record {
+    own = λ e. let f = h .one .only i c e in rw f;
+    apart = λ n. h .alone i c (λ f. n (rw f (h .one .defines)));
+    no-ipl = h .one .no-ipl i c;
+  }
+
+  begin-alike : (u : Record) (answers : List ℕ) → Alike size here (system (start u) main store answers 0) (system (start u) main′ store′ answers 0)
+  unfolding here place start fetched
+  begin-alike u answers = record {
+    states = record { unit = refl; defined = refl; before = refl; located = refl; mask = refl; first = refl; last = refl; set = λ e. absurd (false≢true e) };
+    mains = record { but = h .typed; held = h .held; here = refl; there = refl };
+    stores = record { long = refl; long′ = refl; same = h .blocks; kept = λ _ _. refl; kept′ = λ _ _. refl };
+    answers = refl;
+    reached = refl;
+    safe = safe-start u _;
+  }
+
+  causes-same : (answers : List ℕ) → callCauses size chain main store answers ≡ callCauses size chain main′ store′ answers
+  unfolding callCauses blockCount
+  causes-same answers = rw (h .typed .long, h .sizes)
+
+  -- a data set can be moved
+  pub moved-same : (u : Record) (answers : List ℕ)
+      → SameAfter size (ccwAt chain d) (extentAt (ccwAt chain d) main) (extentAt (ccwAt chain d) main′) store store′
+      (callOf size chain main store u answers) (callOf size chain main′ store′ u answers)
+  unfolding callOf here place
+  moved-same u answers =
+      let w = ap firstOf (causes-same answers) in
+      let a = begin-alike u answers in
+      let z = pick-both (Alike size here) (firstOf (callCauses size chain main store answers) =? 0) _ _ _ _
+          (λ _. run-alike size here sound chain fits (length chain / ccwSize) 0 _ _ (omega arith) (λ j l. absurd (omega arith)) a) (λ _. a) in
+      rw (← w) (record {
+        cause = refl;
+        reached = z .reached;
+        answers = z .answers;
+        unit = z .states .unit;
+        main = z .mains .but;
+        blocks = z .stores .same;
+        outside = z .stores .kept;
+        outside′ = z .stores .kept′;
+      })

@@ -1,0 +1,100 @@
+-- Demand 3, a data set can be moved: what two calls have in common before, and what they then have in common after.
+--     InChain                a CCW that the chain can come to
+--     OneExtent, ParametersHeld, ParametersAlone, Ordered, SameButOffset, HasRoom, SameData
+--                            the sentences of the demand, one each
+--     Moved                  all of them
+--     SameAfter              what they come to
+-- Both calls have the chain, the unit record and the answers. That `Moved` gives `SameAfter` is `moved-same` in
+-- `proofs/MovedRun.antt`. No rule of the unit stands here, and none of them cites this file. Assumes nothing.
+use Prim.Native.Nat.{ℕ, _+_, _-_, _/_, _≤_, _<_}
+use mathlib.Core.Path.{_≡_}
+use mathlib.Core.Logic.{_⊎_}
+use mathlib.Core.Bool.{true}
+use mathlib.Core.List.{List}
+use lib.ListN.{length, getD}
+use Rattle.model.specs.declared.ccw.Ccw.{Ccw}
+use Rattle.model.specs.declared.extent.Extent.{Extent}
+use Rattle.model.specs.Names.{DEFINE-EXTENT, READ-IPL, chain-command}
+use Rattle.model.specs.Lent.{ccwSize, ccwAt, flag, fetched, blockCount, blockAt}
+use Rattle.model.specs.Parameters.{extentLength, extentIn}
+use Rattle.model.specs.Chain.{Called}
+
+-- the chain, up to the CCW where it ends: each CCW before this one has flag 40
+pub record InChain (chain : List ℕ) (i : ℕ) : Type 0 where
+  pub lent : i < length chain / ccwSize
+  pub chained : (j : ℕ) → j < i → flag (ccwAt chain j) chain-command ≡ true
+
+-- "has exactly one DEFINE EXTENT and no READ IPL": CCW d is the one
+pub record OneExtent (chain : List ℕ) (d : ℕ) : Type 0 where
+  pub in-chain : InChain chain d
+  pub defines : ccwAt chain d .command ≡ DEFINE-EXTENT
+  pub only : (i : ℕ) → InChain chain i → ccwAt chain i .command ≡ DEFINE-EXTENT → i ≡ d
+  pub no-ipl : (i : ℕ) → InChain chain i → ccwAt chain i .command ≡ READ-IPL → ⊥
+
+-- byte k is one of the n bytes from a place on
+abbrev pub Among : ℕ → ℕ → ℕ → Type 0
+Among at n k = (at ≤ k) × (k < at + n)
+
+-- "The sixteen bytes at that command's address lie in main storage"
+abbrev pub ParametersHeld : Ccw → List ℕ → Type 0
+ParametersHeld c main = c .address + extentLength ≤ length main
+
+-- "no other command's data area (its count of bytes from its address) touches them"
+abbrev pub ParametersAlone : List ℕ → ℕ → Type 0
+ParametersAlone chain d =
+    (i : ℕ) → InChain chain i → (i ≡ d → ⊥)
+    → (k : ℕ) → Among (ccwAt chain i .address) (ccwAt chain i .count) k → Among (ccwAt chain d .address) extentLength k → ⊥
+
+-- "their first displacement is not above the last"
+abbrev pub Ordered : Extent → Type 0
+Ordered e = e .first .0 ≤ e .last .0
+
+-- "Main storage is equal but for the four offset bytes among them"
+abbrev pub offsetAt : Ccw → ℕ
+offsetAt c = c .address + 4
+
+pub record SameBut (at n : ℕ) (l k : List ℕ) : Type 0 where
+  pub long : length l ≡ length k
+  pub same : (i : ℕ) → (Among at n i → ⊥) → getD l i 0 ≡ getD k i 0
+
+abbrev pub SameButOffset : Ccw → List ℕ → List ℕ → Type 0
+SameButOffset c main main′ = SameBut (offsetAt c) 4 main main′
+
+module _ (size : ℕ) where
+  -- "leave room for the extent (offset + last - first below the device's block count)"
+  abbrev pub HasRoom : Extent → List ℕ → Type 0
+  HasRoom e store = e .offset .0 + (e .last .0 - e .first .0) < blockCount size store
+
+  -- "the extent's blocks hold the same data at both places"
+  abbrev pub SameData : Extent → Extent → List ℕ → List ℕ → Type 0
+  SameData e e′ store store′ = (k : ℕ) → k ≤ e .last .0 - e .first .0 → blockAt size store (e .offset .0 + k) ≡ blockAt size store′ (e′ .offset .0 + k)
+
+  -- "no block outside the extent changes"
+  abbrev pub KeptOutside : Extent → List ℕ → List ℕ → Type 0
+  KeptOutside e store after = (n : ℕ) → (n < e .offset .0) ⊎ (e .offset .0 + (e .last .0 - e .first .0) < n) → blockAt size after n ≡ blockAt size store n
+
+-- what the sixteen bytes say
+abbrev pub extentAt : Ccw → List ℕ → Extent
+extentAt c main = extentIn (fetched c main extentLength)
+
+pub record Moved (size : ℕ) (chain : List ℕ) (d : ℕ) (main main′ store store′ : List ℕ) : Type 0 where
+  pub one : OneExtent chain d
+  pub held : ParametersHeld (ccwAt chain d) main
+  pub alone : ParametersAlone chain d
+  pub order : Ordered (extentAt (ccwAt chain d) main)
+  pub typed : SameButOffset (ccwAt chain d) main main′
+  pub sizes : length store ≡ length store′
+  pub room : HasRoom size (extentAt (ccwAt chain d) main) store
+  pub room′ : HasRoom size (extentAt (ccwAt chain d) main′) store′
+  pub blocks : SameData size (extentAt (ccwAt chain d) main) (extentAt (ccwAt chain d) main′) store store′
+
+-- c is the DEFINE EXTENT; e and e′ are the extents of the two calls
+pub record SameAfter (size : ℕ) (c : Ccw) (e e′ : Extent) (store store′ : List ℕ) (r r′ : Called) : Type 0 where
+  pub cause : r .cause ≡ r′ .cause
+  pub reached : r .reached ≡ r′ .reached
+  pub answers : r .answers ≡ r′ .answers
+  pub unit : r .unit ≡ r′ .unit
+  pub main : SameButOffset c (r .main) (r′ .main)
+  pub blocks : SameData size e e′ (r .store) (r′ .store)
+  pub outside : KeptOutside size e store (r .store)
+  pub outside′ : KeptOutside size e′ store′ (r′ .store)
