@@ -181,9 +181,9 @@ module _ (size : ℕ) (F : Place) (k : Sound size F) (l : Located) (x y : List �
             let a0 = lies-here .base 0 in
             let b0 = lies-there .base 0 in
             let other : (i < from) ⊎ (from + l .blocks ≤ i) → Q = λ w.
-                block-kept size x a (l .blocks) bytes _ (lies-here .fits) (⊎-elim (λ z. inl (omega (arith, a0))) (λ z. inr (omega (arith, a0))) w)
-                ∙ g .same i d
-                ∙ sym (block-kept size y b (l .blocks) bytes _ (lies-there .fits) (⊎-elim (λ z. inl (omega (arith, b0))) (λ z. inr (omega (arith, b0))) w)) in
+            block-kept size x a (l .blocks) bytes _ (lies-here .fits) (⊎-elim (λ z. inl (omega (arith, a0))) (λ z. inr (omega (arith, a0))) w)
+            ∙ g .same i d
+            ∙ sym (block-kept size y b (l .blocks) bytes _ (lies-there .fits) (⊎-elim (λ z. inl (omega (arith, b0))) (λ z. inr (omega (arith, b0))) w)) in
             by-place Q i from (l .blocks) (λ z. other (inl z))
             (λ j z e. rw (e, ← (lies-here .base j), ← (lies-there .base j)) (block-stored size x a (l .blocks) bytes j (lies-here .fits) z ∙ sym (block-stored size y b (l .blocks) bytes j (lies-there .fits) z)))
             (λ z. other (inr z));

@@ -55,15 +55,15 @@ module _ (size : ℕ) (F : Place) (c : Ccw) (f : Fits F c) (s t : State) (r : St
   unfolding senseOf
   sense-same w e =
       let p = pick-both _≡_ (w =? 39) (fetched c m locateLength) (zeros 8) (fetched c m′ locateLength) (zeros 8)
-          (λ b. let l = shown size c s m x (e ∙ eqb-true _ _ b) in fetched-same F c m m′ f g locateLength (λ d. omega (arith, l .0)) (omega (arith, l .1)) (l .1))
-          (λ _. refl) in
+      (λ b. let l = shown size c s m x (e ∙ eqb-true _ _ b) in fetched-same F c m m′ f g locateLength (λ d. omega (arith, l .0)) (omega (arith, l .1)) (l .1))
+      (λ _. refl) in
       rw p
 
   refused-alike : (w : ℕ) → verdict size c s m x ≡ w → Outs size F (refused c s m x w) (refused c t m′ x′ w)
   unfolding refused refusal
   refused-alike w e =
       let u = pick-both _≡_ (programCheck w) (s .unit) (withSense (s .unit) (senseOf w (fetched c m locateLength))) (t .unit) (withSense (t .unit) (senseOf w (fetched c m′ locateLength)))
-          (λ _. r .unit) (λ _. rw (r .unit, sense-same w e)) in
+      (λ _. r .unit) (λ _. rw (r .unit, sense-same w e)) in
       record { dones = record { cause = refl; moved = refl; can = refl; blocks = refl; states = states-after F s t _ _ _ _ u refl r }; mains = g; stores = h }
 
   -- commands that move no block

@@ -88,7 +88,7 @@ module _ (size : ℕ) (F : Place) (k : Sound size F) (c : Ccw) (f : Fits F c) (s
       let here = last-inside (F .here) n (rw w (k .room)) in
       let there = last-inside (F .there) n (rw (w, count-same size (F .store) (F .store′) (k .sizes)) (k .room′)) in
       let x = extent-same size n _ _ (F .here) (F .there) (extent-here F c m m′ f g e) (extent-there F c m m′ f g e) (k .mask) (k .first) (k .last)
-          (reserved-same F c m m′ f g e) (size-same F c m m′ f g e) here there in
+      (reserved-same F c m m′ f g e) (size-same F c m m′ f g e) here there in
       rw (r .defined, x)
 
   locate-states : (p : List ℕ) → locateCauses c s p ≡ locateCauses c t p

@@ -120,6 +120,7 @@ block-kept size store block (suc n) bytes other h d =
     later : (other < block) ⊎ (block + suc n ≤ other) → (other < block + 1) ⊎ (block + 1 + n ≤ other)
     later (inl x) = inl (omega arith)
     later (inr x) = inr (omega arith)
+
     sooner : (other < block) ⊎ (block + suc n ≤ other) → (other < block) ⊎ (block < other)
     sooner (inl x) = inl x
     sooner (inr x) = inr (omega arith)

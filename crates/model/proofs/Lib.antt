@@ -20,3 +20,4 @@ pub mod Worked
 pub mod Overruled
 pub mod Corners
 pub mod WrongUnits
+pub mod MovedWorked

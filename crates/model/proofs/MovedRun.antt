@@ -103,7 +103,7 @@ module _ (size : ℕ) (F : Place) (k : Sound size F) (chain : List ℕ) (fits : 
       rw (← (more-same i y z c a))
       (pick-both (Alike size F) (more size chain i y) _ _ _ _
       (λ m. run-alike n (i + 1) (next size chain i y) (next size chain i z) (omega arith)
-          (λ j q. by-place (flag (ccwAt chain j) chain-command ≡ true) j i 1 (p j) (λ r d e. let f : j ≡ i = omega arith in rw f (goes-chained _ _ m)) (λ r. absurd (omega arith))) b)
+      (λ j q. by-place (flag (ccwAt chain j) chain-command ≡ true) j i 1 (p j) (λ r d e. let f : j ≡ i = omega arith in rw f (goes-chained _ _ m)) (λ r. absurd (omega arith))) b)
       (λ _. b))
 
 -- the start
@@ -171,7 +171,7 @@ module _ (size : ℕ) (chain : List ℕ) (d : ℕ) (main main′ store store′ 
       let w = ap firstOf (causes-same answers) in
       let a = begin-alike u answers in
       let z = pick-both (Alike size here) (firstOf (callCauses size chain main store answers) =? 0) _ _ _ _
-          (λ _. run-alike size here sound chain fits (length chain / ccwSize) 0 _ _ (omega arith) (λ j l. absurd (omega arith)) a) (λ _. a) in
+      (λ _. run-alike size here sound chain fits (length chain / ccwSize) 0 _ _ (omega arith) (λ j l. absurd (omega arith)) a) (λ _. a) in
       rw (← w) (record {
         cause = refl;
         reached = z .reached;

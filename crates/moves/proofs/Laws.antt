@@ -116,8 +116,8 @@ part-same l k at n e h =
     let long : (m : List ℕ) → length (part m at n) ≡ min n (length m - at) = λ m. part-length m at n in
     ext-getD 0 _ _ (long l ∙ rw e (sym (long k)))
     (λ i b.
-        let j : i < n = omega (arith, long l) in
-        get-part l at n i j ∙ h i j ∙ sym (get-part k at n i j))
+    let j : i < n = omega (arith, long l) in
+    get-part l at n i j ∙ h i j ∙ sym (get-part k at n i j))
 
 -- a part apart from the bytes that were put, and the part that they are
 pub part-apart : (l : List ℕ) (at : ℕ) (bytes : List ℕ) (from n : ℕ) → at + length bytes ≤ length l → (from + n ≤ at) ⊎ (at + length bytes ≤ from) → part (put l at bytes) from n ≡ part l from n
