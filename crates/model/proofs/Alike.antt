@@ -28,7 +28,7 @@ use Rattle.model.specs.Lent.{fetched, delivered, blockCount, blockAt, bl
 use Rattle.model.specs.Parameters.{extentLength, extentIn, address}
 use Rattle.model.specs.Commands.{Out, after}
 use Rattle.model.specs.Safe.{InExtent}
-use Rattle.model.specs.Moved.{Among, Ordered, SameBut, HasRoom, SameData, KeptOutside}
+use Rattle.model.specs.Moved.{Among, SameBut, HasRoom, SameData, KeptOutside}
 use Rattle.model.proofs.Lengths.{blocks-into-length, in-store}
 use Rattle.model.proofs.Blocks.{blocks-from-same, block-kept, block-stored}
 
@@ -44,7 +44,6 @@ pub record Sound (size : ℕ) (F : Place) : Type 0 where
   pub mask : F .here .mask ≡ F .there .mask
   pub first : F .here .first ≡ F .there .first
   pub last : F .here .last ≡ F .there .last
-  pub order : Ordered (F .here)
   pub sizes : length (F .store) ≡ length (F .store′)
   pub room : HasRoom size (F .here) (F .store)
   pub room′ : HasRoom size (F .there) (F .store′)
@@ -61,7 +60,6 @@ pub record States (F : Place) (s t : State) : Type 0 where
 
 pub record Mains (F : Place) (m n : List ℕ) : Type 0 where
   pub but : SameBut (F .at + 4) 4 m n
-  pub held : F .at + extentLength ≤ length m
   pub here : extentIn (part m (F .at) extentLength) ≡ F .here
   pub there : extentIn (part n (F .at) extentLength) ≡ F .there
 
@@ -117,7 +115,6 @@ mains-put F m m′ a bytes h d g =
             (λ j k e. rw e (get-in m a bytes j h k ∙ sym (get-in m′ a bytes j h′ k)))
             (λ k. get-after m a bytes i h k ∙ g .but .same i n ∙ sym (get-after m′ a bytes i h′ k));
       };
-      held = rw (length-put m a bytes h) (g .held);
       here = rw (part-apart m a bytes (F .at) extentLength h apart) (g .here);
       there = rw (part-apart m′ a bytes (F .at) extentLength h′ apart) (g .there);
     }
@@ -134,9 +131,9 @@ record Lies (size : ℕ) (e : Extent) (l : Located) (x : List ℕ) (k : ℕ) : T
   pub within : k + l .blocks ≤ e .last .0 - e .first .0 + 1
   pub fits : (address e (l .displacement) + l .blocks) * size ≤ length x
 
-lies : (size : ℕ) (e : Extent) (l : Located) (x : List ℕ) (k : ℕ) → k ≡ l .displacement .0 - e .first .0 → InExtent e l → Ordered e → HasRoom size e x → Lies size e l x k
+lies : (size : ℕ) (e : Extent) (l : Located) (x : List ℕ) (k : ℕ) → k ≡ l .displacement .0 - e .first .0 → InExtent e l → HasRoom size e x → Lies size e l x k
 unfolding address
-lies size e l x k f h o r = record {
+lies size e l x k f h r = record {
   base = λ i. omega (arith, f);
   within = omega (arith, f, h .from-first, h .to-last);
   fits = in-store size x _ (omega (arith, h .from-first, h .to-last, h .some));
@@ -157,14 +154,13 @@ module _ (size : ℕ) (F : Place) (k : Sound size F) (l : Located) (x y : List �
 
   lies-here : Lies size (F .here) l x from
   unfolding from
-  lies-here = lies size (F .here) l x from refl h (k .order) (rw (count-same size x (F .store) (g .long)) (k .room))
+  lies-here = lies size (F .here) l x from refl h (rw (count-same size x (F .store) (g .long)) (k .room))
 
   lies-there : Lies size (F .there) l y from
   unfolding from
   lies-there =
-      let order : Ordered (F .there) = rw (← (k .first), ← (k .last)) (k .order) in
       let room : HasRoom size (F .there) y = rw (count-same size y (F .store′) (g .long′)) (k .room′) in
-      lies size (F .there) l y from (ap (λ (d : Displacement). l .displacement .0 - d .0) (k .first)) h′ order room
+      lies size (F .there) l y from (ap (λ (d : Displacement). l .displacement .0 - d .0) (k .first)) h′ room
 
   pub stores-read : blocksFrom size x (address (F .here) (l .displacement)) (l .blocks) ≡ blocksFrom size y (address (F .there) (l .displacement)) (l .blocks)
   stores-read = blocks-from-same size x y _ _ (l .blocks) (λ i b. rw (lies-here .base i, lies-there .base i) (g .same (from + i) (omega (arith, lies-here .within))))

@@ -133,7 +133,6 @@ module _ (size : ℕ) (chain : List ℕ) (d : ℕ) (main main′ store store′ 
         mask = same-parameter 0 (omega arith) (λ k. omega (arith, k));
         first = rw (behind 8 (omega arith) (omega arith), behind 9 (omega arith) (omega arith), behind 10 (omega arith) (omega arith), behind 11 (omega arith) (omega arith));
         last = rw (behind 12 (omega arith) (omega arith), behind 13 (omega arith) (omega arith), behind 14 (omega arith) (omega arith), behind 15 (omega arith) (omega arith));
-        order = h .order;
         sizes = h .sizes;
         room = h .room;
         room′ = h .room′;
@@ -151,7 +150,7 @@ module _ (size : ℕ) (chain : List ℕ) (d : ℕ) (main main′ store store′ 
   unfolding here place start fetched
   begin-alike u answers = record {
     states = record { unit = refl; defined = refl; before = refl; located = refl; mask = refl; first = refl; last = refl; set = λ e. absurd (false≢true e) };
-    mains = record { but = h .typed; held = h .held; here = refl; there = refl };
+    mains = record { but = h .typed; here = refl; there = refl };
     stores = record { long = refl; long′ = refl; same = h .blocks; kept = λ _ _. refl; kept′ = λ _ _. refl };
     answers = refl;
     reached = refl;
@@ -164,8 +163,7 @@ module _ (size : ℕ) (chain : List ℕ) (d : ℕ) (main main′ store store′ 
 
   -- a data set can be moved
   pub moved-same : (u : Record) (answers : List ℕ)
-      → SameAfter size (ccwAt chain d) (extentAt (ccwAt chain d) main) (extentAt (ccwAt chain d) main′) store store′
-      (callOf size chain main store u answers) (callOf size chain main′ store′ u answers)
+      → SameAfter size chain d main main′ store store′ (callOf size chain main store u answers) (callOf size chain main′ store′ u answers)
   unfolding callOf here place
   moved-same u answers =
       let w = ap firstOf (causes-same answers) in
@@ -177,7 +175,7 @@ module _ (size : ℕ) (chain : List ℕ) (d : ℕ) (main main′ store store′ 
         reached = z .reached;
         answers = z .answers;
         unit = z .states .unit;
-        main = z .mains .but;
+        storage = z .mains .but;
         blocks = z .stores .same;
         outside = z .stores .kept;
         outside′ = z .stores .kept′;

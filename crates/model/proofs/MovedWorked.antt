@@ -71,9 +71,7 @@ pub moved-pair : Moved classA chain 0 (main 1 2) (main 5 2) (stores 1 0x51 5) (s
 unfolding opened
 moved-pair = record {
   one = one-extent;
-  held = omega arith;
   alone = alone;
-  order = omega arith;
   typed = typed (main 1 2) (0 ∷ 0 ∷ 0 ∷ 5 ∷ []) 4 (omega arith);
   sizes = refl;
   room = omega arith;

@@ -1,11 +1,13 @@
 -- Demand 3, a data set can be moved: what two calls have in common before, and what they then have in common after.
 --     InChain                a CCW that the chain can come to
---     OneExtent, ParametersHeld, ParametersAlone, Ordered, SameButOffset, HasRoom, SameData
+--     OneExtent, ParametersAlone, SameButOffset, HasRoom, SameData
 --                            the sentences of the demand, one each
 --     Moved                  all of them
 --     SameAfter              what they come to
 -- Both calls have the chain, the unit record and the answers. That `Moved` gives `SameAfter` is `moved-same` in
--- `proofs/MovedRun.antt`. No rule of the unit stands here, and none of them cites this file. Assumes nothing.
+-- `proofs/MovedRun.antt`. Two sentences of the demand are not asked for: that the sixteen bytes lie in main storage, and
+-- that the first displacement is not above the last. Where one fails the DEFINE EXTENT is refused in both calls, and alike.
+-- No rule of the unit stands here, and none of them cites this file. Assumes nothing.
 use Prim.Native.Nat.{ℕ, _+_, _-_, _/_, _≤_, _<_}
 use mathlib.Core.Path.{_≡_}
 use mathlib.Core.Logic.{_⊎_}
@@ -35,19 +37,11 @@ pub record OneExtent (chain : List ℕ) (d : ℕ) : Type 0 where
 abbrev pub Among : ℕ → ℕ → ℕ → Type 0
 Among at n k = (at ≤ k) × (k < at + n)
 
--- "The sixteen bytes at that command's address lie in main storage"
-abbrev pub ParametersHeld : Ccw → List ℕ → Type 0
-ParametersHeld c main = c .address + extentLength ≤ length main
-
 -- "no other command's data area (its count of bytes from its address) touches them"
 abbrev pub ParametersAlone : List ℕ → ℕ → Type 0
 ParametersAlone chain d =
     (i : ℕ) → InChain chain i → (i ≡ d → ⊥)
     → (k : ℕ) → Among (ccwAt chain i .address) (ccwAt chain i .count) k → Among (ccwAt chain d .address) extentLength k → ⊥
-
--- "their first displacement is not above the last"
-abbrev pub Ordered : Extent → Type 0
-Ordered e = e .first .0 ≤ e .last .0
 
 -- "Main storage is equal but for the four offset bytes among them"
 abbrev pub offsetAt : Ccw → ℕ
@@ -79,22 +73,20 @@ extentAt c main = extentIn (fetched c main extentLength)
 
 pub record Moved (size : ℕ) (chain : List ℕ) (d : ℕ) (main main′ store store′ : List ℕ) : Type 0 where
   pub one : OneExtent chain d
-  pub held : ParametersHeld (ccwAt chain d) main
   pub alone : ParametersAlone chain d
-  pub order : Ordered (extentAt (ccwAt chain d) main)
   pub typed : SameButOffset (ccwAt chain d) main main′
   pub sizes : length store ≡ length store′
   pub room : HasRoom size (extentAt (ccwAt chain d) main) store
   pub room′ : HasRoom size (extentAt (ccwAt chain d) main′) store′
   pub blocks : SameData size (extentAt (ccwAt chain d) main) (extentAt (ccwAt chain d) main′) store store′
 
--- c is the DEFINE EXTENT; e and e′ are the extents of the two calls
-pub record SameAfter (size : ℕ) (c : Ccw) (e e′ : Extent) (store store′ : List ℕ) (r r′ : Called) : Type 0 where
+-- r and r′ are what the two calls gave
+pub record SameAfter (size : ℕ) (chain : List ℕ) (d : ℕ) (main main′ store store′ : List ℕ) (r r′ : Called) : Type 0 where
   pub cause : r .cause ≡ r′ .cause
   pub reached : r .reached ≡ r′ .reached
   pub answers : r .answers ≡ r′ .answers
   pub unit : r .unit ≡ r′ .unit
-  pub main : SameButOffset c (r .main) (r′ .main)
-  pub blocks : SameData size e e′ (r .store) (r′ .store)
-  pub outside : KeptOutside size e store (r .store)
-  pub outside′ : KeptOutside size e′ store′ (r′ .store)
+  pub storage : SameButOffset (ccwAt chain d) (r .main) (r′ .main)
+  pub blocks : SameData size (extentAt (ccwAt chain d) main) (extentAt (ccwAt chain d) main′) (r .store) (r′ .store)
+  pub outside : KeptOutside size (extentAt (ccwAt chain d) main) store (r .store)
+  pub outside′ : KeptOutside size (extentAt (ccwAt chain d) main′) store′ (r′ .store)
