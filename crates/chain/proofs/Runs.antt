@@ -22,7 +22,7 @@ use Rattle.model.proofs.Picks.{pick-true, pick-false}
 use Rattle.model.proofs.Lengths.{Going, next-going, some-block}
 use Rattle.model.proofs.Endings.{Callable}
 use Rattle.chain.specs.Promises.{Runnable}
-use Rattle.chain.proofs.Tests.{answer-whole}
+use Rattle.channel.proofs.Tests.{answer-whole}
 
 pub run-done : (size : ℕ) (chain : List ℕ) (n i : ℕ) (y : System) → n ≡ 0 → run size chain n i y ≡ y
 unfolding run

@@ -1,6 +1,6 @@
 // The call: refused as a whole by the first of causes 1 to 5 that holds, or the chain run from a fresh state.
-use crate::causes::call_cause;
 use crate::run::run_chain;
+use channel::causes::call_cause;
 use model::extent::Displacement;
 use model::extent::Extent;
 use model::extent::Located;

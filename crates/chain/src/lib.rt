@@ -1,6 +1,3 @@
-// How a chain is done: whether the call may begin, each CCW, the answer to it, and the run.
-pub mod answer;
+// How a chain is done: the run, one turn for each command, and the call.
 pub mod call;
-pub mod causes;
-pub mod ccw;
 pub mod run;

@@ -1,7 +1,7 @@
 // The run of a chain: one turn for each command reached, until one of them ends it.
-use crate::answer::answer_of;
-use crate::answer::goes_on;
-use crate::ccw::ccw_at;
+use channel::answer::answer_of;
+use channel::answer::goes_on;
+use channel::ccw::ccw_at;
 use model::state::State;
 use unit::step::step;
 ghost use mathlib.Core.Path.{_≡_};

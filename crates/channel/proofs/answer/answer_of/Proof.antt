@@ -1,8 +1,8 @@
 -- `answer::answer_of` meets its contract: the parts are what the callees ensure. Assumes nothing.
 use Rattle.model.specs.Answer.{residual, answerOf}
 use borrow.Author.Needs.{needs}
-use Rattle.chain.proofs.answer.answer_of.Statement.{statement}
-use Rattle.chain.proofs.answer.answer_of.Tie as tie
+use Rattle.channel.proofs.answer.answer_of.Statement.{statement}
+use Rattle.channel.proofs.answer.answer_of.Tie as tie
 
 returns : tie.Need-returns
 unfolding answerOf residual

@@ -8,10 +8,10 @@ use native.Mathlib.Omega.{arith}
 use borrow.Author.Tests.{not-true, not-false}
 use Rattle.model.specs.Lent.{flag}
 use Rattle.model.specs.Causes.{allChained}
-use Rattle.chain.proofs.Tests.{chained-none, chained-more, chained-not}
+use Rattle.channel.proofs.Tests.{chained-none, chained-more, chained-not}
 use borrow.Author.Needs.{needs}
-use Rattle.chain.proofs.causes.all_chained.Statement.{statement}
-use Rattle.chain.proofs.causes.all_chained.Tie as tie
+use Rattle.channel.proofs.causes.all_chained.Statement.{statement}
+use Rattle.channel.proofs.causes.all_chained.Tie as tie
 
 abbrev Inv-loop : tie.InvT-loop
 Inv-loop chain n i₀ i = (i ≤ n) × (allChained chain i ≡ true)

@@ -3,8 +3,8 @@ use borrow.Author.Tests.{eq-eqb, ne-eqb}
 use Rattle.model.specs.Answer.{goesOn}
 use Rattle.model.specs.Lent.{flag}
 use borrow.Author.Needs.{needs}
-use Rattle.chain.proofs.answer.goes_on.Statement.{statement}
-use Rattle.chain.proofs.answer.goes_on.Tie as tie
+use Rattle.channel.proofs.answer.goes_on.Statement.{statement}
+use Rattle.channel.proofs.answer.goes_on.Tie as tie
 
 returns : tie.Need-returns
 unfolding goesOn flag

@@ -1,8 +1,8 @@
 -- `causes::store_wrong` meets its contract: a test for each part of the rule, in its order. Assumes nothing.
 use borrow.Author.Tests.{eq-eqb, ne-eqb}
 use borrow.Author.Needs.{needs}
-use Rattle.chain.proofs.causes.store_wrong.Statement.{statement}
-use Rattle.chain.proofs.causes.store_wrong.Tie as tie
+use Rattle.channel.proofs.causes.store_wrong.Statement.{statement}
+use Rattle.channel.proofs.causes.store_wrong.Tie as tie
 
 returns : tie.Need-returns
 returns c = simp (eq-eqb _ _ (c .if1 .taken))

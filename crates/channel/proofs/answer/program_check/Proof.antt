@@ -1,9 +1,9 @@
 -- `answer::program_check` meets its contract: on all 256 bytes the list of causes is a range. Assumes nothing.
 use borrow.Author.Tests.{lt-ltb, le-ltb}
-use Rattle.chain.proofs.Tests.{program-checks}
+use Rattle.channel.proofs.Tests.{program-checks}
 use borrow.Author.Needs.{needs}
-use Rattle.chain.proofs.answer.program_check.Statement.{statement}
-use Rattle.chain.proofs.answer.program_check.Tie as tie
+use Rattle.channel.proofs.answer.program_check.Statement.{statement}
+use Rattle.channel.proofs.answer.program_check.Tie as tie
 
 returns : tie.Need-returns
 returns c = simp (program-checks (c .before .args .cause) (search needs), lt-ltb _ _ (c .if1 .taken))

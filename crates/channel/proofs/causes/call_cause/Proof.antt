@@ -6,8 +6,8 @@ use Rattle.model.specs.Lent.{blockCount}
 use Rattle.model.specs.Causes.{callCauses}
 use Rattle.model.proofs.Verdicts.{first-here, first-later, first-none}
 use borrow.Author.Needs.{needs}
-use Rattle.chain.proofs.causes.call_cause.Statement.{statement}
-use Rattle.chain.proofs.causes.call_cause.Tie as tie
+use Rattle.channel.proofs.causes.call_cause.Statement.{statement}
+use Rattle.channel.proofs.causes.call_cause.Tie as tie
 
 returns : tie.Need-returns
 unfolding callCauses blockCount

@@ -1,8 +1,8 @@
 -- `ccw::ccw_at` meets its contract: each field is the bytes that the definition reads, and be2 and be3 hand on the bounds. Assumes nothing.
 use Rattle.model.specs.Lent.{ccwAt}
 use borrow.Author.Needs.{needs}
-use Rattle.chain.proofs.ccw.ccw_at.Statement.{statement}
-use Rattle.chain.proofs.ccw.ccw_at.Tie as tie
+use Rattle.channel.proofs.ccw.ccw_at.Statement.{statement}
+use Rattle.channel.proofs.ccw.ccw_at.Tie as tie
 
 returns : tie.Need-returns
 unfolding ccwAt

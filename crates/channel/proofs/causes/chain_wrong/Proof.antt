@@ -1,7 +1,7 @@
 -- `causes::chain_wrong` meets its contract: a test for each part of the rule, in its order. Assumes nothing.
 use borrow.Author.Tests.{eq-eqb, ne-eqb, lt-ltb, le-ltb}
-use Rattle.chain.proofs.causes.chain_wrong.Statement.{statement}
-use Rattle.chain.proofs.causes.chain_wrong.Tie as tie
+use Rattle.channel.proofs.causes.chain_wrong.Statement.{statement}
+use Rattle.channel.proofs.causes.chain_wrong.Tie as tie
 
 returns : tie.Need-returns
 returns c = simp (eq-eqb _ _ (c .if1 .taken))

@@ -3,8 +3,8 @@ use borrow.Author.Tests.{eq-eqb, ne-eqb}
 use Rattle.model.specs.Answer.{wrongLength}
 use Rattle.model.specs.Lent.{flag}
 use borrow.Author.Needs.{needs}
-use Rattle.chain.proofs.answer.wrong_length.Statement.{statement}
-use Rattle.chain.proofs.answer.wrong_length.Tie as tie
+use Rattle.channel.proofs.answer.wrong_length.Statement.{statement}
+use Rattle.channel.proofs.answer.wrong_length.Tie as tie
 
 returns : tie.Need-returns
 unfolding wrongLength flag
