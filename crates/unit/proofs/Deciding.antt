@@ -1,5 +1,4 @@
--- What a command's own answer makes of `decided`. No contract cites this file.
---     refused-out, accepted-out     a refusal, and an acceptance, as the outcome of a table
+-- What the parameters' answer makes of a control command. No contract cites this file.
 --     defined-cause, location-cause   the answers' numbers are unit checks, with sense in the table
 --     define-out, locate-out          what the parameters' answer makes of the command, once they are there
 use Prim.Native.Nat.{ℕ, _<_}
@@ -21,20 +20,12 @@ use Rattle.model.specs.Causes.{programCheck, extentCauses, locationCauses}
 use Rattle.model.specs.Commands.{Out, out, after, extentSet, locateSet, ended, defineExtent, locate, refusal, refused, decided}
 use Rattle.model.proofs.Picks.{pick-ind, pick-true, pick-false}
 use Rattle.parameters.specs.Answers.{definedNumber, locationNumber}
-use Rattle.unit.specs.Cleared.{cleared, defineDone, locateDone}
+use Rattle.outcomes.specs.Cleared.{cleared}
+use Rattle.unit.specs.Controls.{defineDone, locateDone}
 use Rattle.parameters.specs.declared.define.Defined.{Defined}
 use Rattle.parameters.specs.declared.define.Defined.the-variants.{Taken, BadMask, Maintenance, BadSize, FirstAfterLast, PastDevice}
 use Rattle.parameters.specs.declared.locate.Location.{Location}
 use Rattle.parameters.specs.declared.locate.Location.the-variants.{Found, BadModifier, BadOperation, BadCount, BadReplication, OutsideExtent, Forbidden, ReadOnly, NoAlternate}
-
-module _ (c : Ccw) (s : State) (main store : List ℕ) where
-  pub refused-out : (v w : ℕ) (o : Out) (d : Done) → v ≡ w → (w ≡ 0 → ⊥) → d ≡ refusal s w (fetched c main locateLength) → out d main store ≡ decided c s main store v o
-  unfolding decided refused pick
-  refused-out v w o d e n f = rw (e, ne-eqb w 0 n, f)
-
-  pub accepted-out : (v : ℕ) (o x : Out) → v ≡ 0 → x ≡ o → x ≡ decided c s main store v o
-  unfolding decided pick
-  accepted-out v o x e f = rw (e, f)
 
 -- a number that the unit may refuse with, other than 39
 pub record UnitCause (w : ℕ) : Type 0 where

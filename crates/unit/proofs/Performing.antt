@@ -16,7 +16,7 @@ use Rattle.model.specs.Parameters.{extentLength, locateLength, reads, writes}
 use Rattle.model.specs.Causes.{defineExtentCauses, locateCauses, readIplCauses, transferCauses, channelCauses, unitCauses, ownCauses}
 use Rattle.model.specs.Commands.{Out, after, noOperation, defineExtent, locate, read, write, readIpl, sense, senseType, readLog, accepted, seen, decided, refusal, refused, out, step}
 use Rattle.model.proofs.Steps.{step-early, own-define, own-locate, own-read, own-write, own-read-ipl, own-none, accepted-no-operation, accepted-define, accepted-locate, accepted-read, accepted-write, accepted-read-ipl, accepted-sense, accepted-sense-type}
-use Rattle.unit.specs.Cleared.{cleared}
+use Rattle.outcomes.specs.Cleared.{cleared}
 
 module _ (c : Ccw) (s : State) where
   seen-kept : oneOf (NO-OPERATION ∷ SENSE ∷ []) (c .command) ≡ true → seen c s ≡ s

@@ -1,1 +1,1 @@
-pub mod Cleared
+pub mod Controls

@@ -1,14 +1,14 @@
 // The control commands: NO-OPERATION, DEFINE EXTENT and LOCATE. They move parameters at most, and change no storage.
-use crate::refusal::after;
-use crate::refusal::ended;
-use crate::refusal::extent_set;
-use crate::refusal::locate_set;
-use crate::refusal::refuse;
-use crate::refusal::unit_check;
 use model::ccw::Ccw;
 use model::state::Before;
 use model::state::Done;
 use model::state::State;
+use outcomes::after;
+use outcomes::ended;
+use outcomes::extent_set;
+use outcomes::locate_set;
+use outcomes::refuse;
+use outcomes::unit_check;
 use parameters::define::define_parameters;
 use parameters::define::extent_in;
 use parameters::locate::locate_parameters;
@@ -24,7 +24,8 @@ ghost use Rattle.model.specs.Lent.{fetched};
 ghost use Rattle.model.specs.Parameters.{extentLength, locateLength};
 ghost use Rattle.model.specs.Causes.{defineExtentCauses, locateCauses};
 ghost use Rattle.model.specs.Commands.{out, noOperation, defineExtent, locate, decided};
-ghost use Rattle.unit.specs.Cleared.{cleared, defineDone, locateDone};
+ghost use Rattle.outcomes.specs.Cleared.{cleared};
+ghost use Rattle.unit.specs.Controls.{defineDone, locateDone};
 
 pub const EXTENT_LENGTH: usize = 16;
 

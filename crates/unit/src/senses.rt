@@ -1,11 +1,11 @@
 // The sense commands: SENSE, SENSE TYPE and READ AND RESET BUFFERED LOG. They move bytes of the unit's own into main storage.
-use crate::refusal::after;
-use crate::refusal::ended;
 use model::ccw::Ccw;
 use model::record::Record;
 use model::state::Before;
 use model::state::Done;
 use model::state::State;
+use outcomes::after;
+use outcomes::ended;
 use records::log::Log;
 use records::log::log_reset;
 use records::log::no_sense;

@@ -1,19 +1,19 @@
 // One command: the channel's tests, the unit's, then the command's own and what it does. `step` is the way in.
-use crate::blocks::read;
-use crate::blocks::read_ipl;
-use crate::blocks::write;
 use crate::controls::clear;
 use crate::controls::define_extent;
 use crate::controls::locate;
 use crate::controls::no_operation;
-use crate::refusal::program_check;
-use crate::refusal::refuse;
 use crate::senses::read_log;
 use crate::senses::sense;
 use crate::senses::sense_type;
+use blocks::read;
+use blocks::read_ipl;
+use blocks::write;
 use model::ccw::Ccw;
 use model::state::Done;
 use model::state::State;
+use outcomes::program_check;
+use outcomes::refuse;
 ghost use mathlib.Core.Path.{_≡_};
 ghost use mathlib.Core.Bool.{true, false, not, _&&_};
 ghost use mathlib.Core.List.{List, [], _∷_};
@@ -25,7 +25,7 @@ ghost use Rattle.model.specs.Lent.{blockCount};
 ghost use Rattle.model.specs.Causes.{commands, channelCauses, programCheck, unitCauses, ownCauses};
 ghost use Rattle.model.specs.Commands.{out, decided, accepted, seen, step};
 ghost use Rattle.model.specs.Safe.{Safe};
-ghost use Rattle.unit.specs.Cleared.{Sized};
+ghost use Rattle.blocks.specs.Transferred.{Sized};
 
 // The low four bits are 0 or 8: to the channel, no command.
 fn no_command(command: u8) -> bool

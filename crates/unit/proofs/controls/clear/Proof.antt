@@ -1,5 +1,5 @@
 -- `unit::controls::clear` meets its contract. Assumes nothing.
-use Rattle.unit.specs.Cleared.{cleared}
+use Rattle.outcomes.specs.Cleared.{cleared}
 use borrow.Author.Needs.{needs}
 use Rattle.unit.proofs.controls.clear.Statement.{statement}
 use Rattle.unit.proofs.controls.clear.Tie as tie

@@ -1,0 +1,32 @@
+-- `located_move` meets its contract. Assumes nothing.
+use mathlib.Core.Path.{refl}
+use native.Mathlib.Omega.{arith}
+use Rattle.blocks.proofs.Transfers.{placed}
+use borrow.Author.Needs.{needs}
+use Rattle.blocks.proofs.located_move.Statement.{statement}
+use Rattle.blocks.proofs.located_move.Tie as tie
+
+address-requires : tie.Need-address-requires
+address-requires c κs =
+    let pre = c .before .before .before .pre in
+    let args = c .before .before .before .args in
+    let p = pre in
+    placed (args .size) _ _ _ (p .0) (p .1) (p .2) .from-first
+
+mul-can : tie.Need-mul-can
+mul-can c =
+    let pre = c .before .before .before .before .before .pre in
+    let args = c .before .before .before .before .before .args in
+    let p = pre in
+    record { fits = omega (arith, placed (args .size) _ _ _ (p .0) (p .1) (p .2) .product) }
+
+returns : tie.Need-returns
+returns c = (c .before .before .address .ensures, refl, c .least .ensures)
+
+pub located-move-spec : {M : Type 1} → statement M
+located-move-spec = tie.close
+    (tie.spec
+    address-requires
+    mul-can
+    (search needs)  -- least-requires
+    returns)
