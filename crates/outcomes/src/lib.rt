@@ -75,7 +75,7 @@ pub fn program_check(s: State, cause: u8) -> Done
     let t = after(s, u, Before::Other);
     Done {
         state: t,
-        cause: cause,
+        cause: cause, // the channel's
         moved: 0,
         can: 0,
         blocks: 0,

@@ -1,4 +1,3 @@
-// The unit record: the sense of a refusal, the counts and their log, and the 34 bytes that hold it.
-pub mod layout;
+// What the unit record keeps: the sense of a refusal, the counts and their log. Its 34 bytes are the crate layout's.
 pub mod log;
 pub mod sense;

@@ -1,4 +1,4 @@
--- `unit::log::log_reset` meets its contract: the definition changes the same three fields.
+-- `log::log_reset` meets its contract: the definition changes the same three fields.
 -- Assumes nothing.
 use mathlib.Core.Path.{refl}
 use Rattle.moves.specs.Parts.{zeros}

@@ -1,4 +1,4 @@
--- `unit::log::no_sense` meets its contract: `zeros 24` is the array of 24 zeros.
+-- `log::no_sense` meets its contract: `zeros 24` is the array of 24 zeros.
 -- Assumes nothing.
 use borrow.Author.Needs.{needs}
 use Rattle.moves.specs.Parts.{zeros}

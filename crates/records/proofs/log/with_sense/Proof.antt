@@ -1,4 +1,4 @@
--- `unit::log::with_sense` meets its contract: the definition changes the same field.
+-- `log::with_sense` meets its contract: the definition changes the same field.
 -- Assumes nothing.
 use mathlib.Core.Path.{refl}
 use Rattle.model.specs.Log.{withSense}

@@ -1,4 +1,4 @@
--- `unit::log::written_counted` meets its contract: the field that changes is the sum that stops.
+-- `log::written_counted` meets its contract: the field that changes is the sum that stops.
 -- Assumes nothing.
 use borrow.Author.Needs.{needs}
 use Rattle.model.specs.Log.{withCounts, writtenCounted}

@@ -1,4 +1,4 @@
--- `unit::sense::row_of` meets its contract: antt computes the definition's 45 rows and compares them with the table.
+-- `sense::row_of` meets its contract: antt computes the definition's 45 rows and compares them with the table.
 -- Assumes nothing.
 use borrow.Author.Needs.{needs}
 use mathlib.Core.Path.{refl}

@@ -1,4 +1,4 @@
--- `unit::sense::sense_of` meets its contract: the row's bytes over zeros, and for 39 the parameters over those.
+-- `sense::sense_of` meets its contract: the row's bytes over zeros, and for 39 the parameters over those.
 -- Assumes nothing.
 use borrow.Author.Needs.{needs}
 use borrow.Author.Tests.{eq-eqb, ne-eqb}

@@ -1,4 +1,4 @@
--- `unit::log::Log::of` meets its contract: three counts are put over the two bytes that every log has.
+-- `log::Log::of` meets its contract: three counts are put over the two bytes that every log has.
 -- Assumes nothing.
 use borrow.Author.Needs.{needs}
 use native.Mathlib.Omega.{arith}

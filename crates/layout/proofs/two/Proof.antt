@@ -1,12 +1,12 @@
--- `unit::record::two` meets its contract: the part is its first byte and the rest, twice.
+-- `two` meets its contract: the part is its first byte and the rest, twice.
 -- Assumes nothing.
 use borrow.Author.Needs.{needs}
 use Prim.Native.Nat.{_+_}
 use native.Mathlib.Omega.{arith}
 use Rattle.moves.specs.Parts.{part}
 use Rattle.moves.proofs.Laws.{part-cons}
-use Rattle.records.proofs.layout.two.Statement.{statement}
-use Rattle.records.proofs.layout.two.Tie as tie
+use Rattle.layout.proofs.two.Statement.{statement}
+use Rattle.layout.proofs.two.Tie as tie
 
 returns : tie.Need-returns
 unfolding part

@@ -1,10 +1,10 @@
--- `unit::record::new_record` meets its contract: the definition makes the same record.
+-- `new_record` meets its contract: the definition makes the same record.
 -- Assumes nothing.
 use mathlib.Core.Path.{refl}
 use Rattle.moves.specs.Parts.{zeros}
 use Rattle.model.specs.Lent.{newRecord}
-use Rattle.records.proofs.layout.new_record.Statement.{statement}
-use Rattle.records.proofs.layout.new_record.Tie as tie
+use Rattle.layout.proofs.new_record.Statement.{statement}
+use Rattle.layout.proofs.new_record.Tie as tie
 
 returns : tie.Need-returns
 unfolding newRecord zeros

@@ -1,11 +1,12 @@
--- `unit::record::pack` meets its contract: each field is put behind those before it, and the two bytes behind all.
+-- `pack` meets its contract: each field is put behind those before it, and the two bytes behind all.
 -- Assumes nothing.
 use borrow.Author.Needs.{needs}
 use native.Mathlib.Omega.{arith}
 use lib.ListN.{length-set}
-use Rattle.records.proofs.Stores.{Arrays, record-stored}
-use Rattle.records.proofs.layout.pack.Statement.{statement}
-use Rattle.records.proofs.layout.pack.Tie as tie
+use Rattle.records.proofs.Stores.{Arrays}
+use Rattle.layout.proofs.Stores.{record-stored}
+use Rattle.layout.proofs.pack.Statement.{statement}
+use Rattle.layout.proofs.pack.Tie as tie
 
 arrays : (c : tie.Start) → Arrays (c .args .u)
 arrays c = record { sense = search needs; read = search needs; written = search needs; movements = search needs }

@@ -1,4 +1,4 @@
--- `unit::record::three` meets its contract: the part is its first byte and the rest, three times.
+-- `three` meets its contract: the part is its first byte and the rest, three times.
 -- Assumes nothing.
 use borrow.Author.Needs.{needs}
 use Prim.Native.Nat.{_+_}
@@ -6,8 +6,8 @@ use mathlib.Core.Path.{_≡_}
 use native.Mathlib.Omega.{arith}
 use Rattle.moves.proofs.Laws.{part-cons}
 use Rattle.moves.specs.Parts.{part}
-use Rattle.records.proofs.layout.three.Statement.{statement}
-use Rattle.records.proofs.layout.three.Tie as tie
+use Rattle.layout.proofs.three.Statement.{statement}
+use Rattle.layout.proofs.three.Tie as tie
 
 returns : tie.Need-returns
 unfolding part

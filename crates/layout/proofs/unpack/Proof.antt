@@ -1,4 +1,4 @@
--- `unit::record::unpack` meets its contract: each field is the part of the bytes that the definition names.
+-- `unpack` meets its contract: each field is the part of the bytes that the definition names.
 -- Assumes nothing.
 use borrow.Author.Needs.{needs}
 use mathlib.Core.Path.{_≡_, _∙_}
@@ -8,8 +8,8 @@ use lib.ListN.{take}
 use Rattle.moves.proofs.Laws.{put-all}
 use Rattle.moves.specs.Parts.{part}
 use Rattle.model.specs.Lent.{recordOf}
-use Rattle.records.proofs.layout.unpack.Statement.{statement}
-use Rattle.records.proofs.layout.unpack.Tie as tie
+use Rattle.layout.proofs.unpack.Statement.{statement}
+use Rattle.layout.proofs.unpack.Tie as tie
 
 returns : tie.Need-returns
 unfolding recordOf part
