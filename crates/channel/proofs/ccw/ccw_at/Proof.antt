@@ -6,7 +6,9 @@ use Rattle.channel.proofs.ccw.ccw_at.Tie as tie
 
 returns : tie.Need-returns
 unfolding ccwAt
-returns c = (cc, search needs, search needs)
+returns c =
+    let be3 = c .before .before .be3 in
+    (rw (be3 .ensures .0, c .be2 .ensures .0), c .be2 .ensures .1, be3 .ensures .1)
 
 pub ccw-at-spec : {M : Type 1} → statement M
 ccw-at-spec =

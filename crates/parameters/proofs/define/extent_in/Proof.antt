@@ -6,7 +6,7 @@ use Rattle.parameters.proofs.define.extent_in.Tie as tie
 
 returns : tie.Need-returns
 unfolding extentIn
-returns c = cc
+returns c = rw (c .before .before .be4 .ensures, c .before .be42 .ensures, c .be43 .ensures)
 
 pub extent-in-spec : {M : Type 1} → statement M
 extent-in-spec =

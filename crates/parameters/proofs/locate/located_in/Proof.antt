@@ -10,7 +10,7 @@ returns : tie.Need-returns
 unfolding locatedIn
 returns c =
     let args = c .before .before .before .before .args in
-    (rw (and-mask (getD (args .p .now) 0 0) 4) cc, mask-lt (getD (args .p .now) 0 0) 4, search needs)
+    (rw (and-mask (getD (args .p .now) 0 0) 4, c .before .be2 .ensures .0, c .be4 .ensures), mask-lt (getD (args .p .now) 0 0) 4, c .before .be2 .ensures .1)
 
 pub located-in-spec : {M : Type 1} → statement M
 located-in-spec = tie.close
