@@ -3,7 +3,7 @@
 --     refused-hosted   no such record: refused, and nothing changed
 -- No contract cites this file.
 use Prim.Native.Nat.{ℕ}
-use mathlib.Core.Path.{_≡_, refl, sym, ap, _∙_}
+use mathlib.Core.Path.{_≡_, sym, ap}
 use mathlib.Core.List.{List}
 use lib.ListN.{length}
 use Rattle.model.specs.declared.record.Record.{Record}

@@ -6,10 +6,10 @@
 --     host-keeps      it keeps the length of each buffer, and bytes bytes
 --     result-reads    the one number holds both: the cause, and the commands reached
 -- Assumes nothing.
-use Prim.Native.Nat.{ℕ, _+_, _*_, _/_, _%_, _≤_, _<_}
+use Prim.Native.Nat.{ℕ, _/_, _%_, _<_}
 use mathlib.Core.Path.{_≡_, refl, sym, ap, _∙_}
-use mathlib.Core.Bool.{Bool, true, false, not}
-use mathlib.Core.List.{List, [], _∷_, _++_}
+use mathlib.Core.Bool.{not}
+use mathlib.Core.List.{List, [], _∷_}
 use lib.ListN.{length}
 use native.Mathlib.Omega.{arith}
 use borrow.Author.Tests.{eqb-true, eqb-false, eq-eqb, ne-eqb, not-false}
@@ -17,13 +17,12 @@ use Rattle.numbers.specs.Bytes.{AreBytes}
 use Rattle.model.specs.Rules.{_=?_, pick, _when_, firstOf}
 use Rattle.model.specs.Lent.{recordSize, recordBytes, recordOf, newRecord}
 use Rattle.model.specs.Causes.{callCauses, hostCauses}
-use Rattle.model.specs.Chain.{Called, callOf}
-use Rattle.model.specs.Host.{Hosted, resultOf, hosted, hostCallOf, SetUp, setUp}
+use Rattle.model.specs.Chain.{callOf}
+use Rattle.model.specs.Host.{Hosted, resultOf, hosted, hostCallOf, setUp}
 use Rattle.model.proofs.Picks.{pick-ind, pick-true, pick-false}
 use Rattle.model.proofs.Verdicts.{failed-upto, failed-all, none-given, first-append}
 use Rattle.model.proofs.Refusals.{call-refused, host-refused}
 use Rattle.model.proofs.Lengths.{call-lengths}
-use Rattle.model.proofs.Fields.{IsRecord}
 use Rattle.model.proofs.Kept.{call-bytes}
 use Rattle.model.proofs.Records.{record-bytes-length, record-bytes, record-of, bytes-back}
 

@@ -6,29 +6,25 @@
 --     moved-same    the theorem
 --     moved-hosted  the same of calls from C
 -- Assumes nothing.
-use Prim.Native.Nat.{ℕ, zero, suc, _+_, _-_, _*_, _/_, _≤_, _<_}
+use Prim.Native.Nat.{ℕ, zero, suc, _+_, _/_, _≤_, _<_}
 use mathlib.Core.Path.{_≡_, refl, sym, ap, _∙_}
 use mathlib.Core.Bool.{Bool, true, false, _&&_, false≢true}
 use mathlib.Core.List.{List}
 use lib.ListN.{length, getD}
 use native.Mathlib.Omega.{arith}
 use borrow.Author.Tests.{eqb-true, eqb-false}
-use Rattle.moves.specs.Parts.{part, put}
 use Rattle.moves.proofs.Laws.{by-place, get-part}
 use Rattle.model.specs.declared.ccw.Ccw.{Ccw}
-use Rattle.model.specs.declared.extent.Extent.{Extent}
 use Rattle.model.specs.declared.record.Record.{Record}
-use Rattle.model.specs.declared.state.State.{State}
 use Rattle.model.specs.declared.state.Done.{Done}
-use Rattle.model.specs.Names.{DEFINE-EXTENT, chain-command}
-use Rattle.model.specs.Rules.{_=?_, pick, firstOf}
+use Rattle.model.specs.Names.{chain-command}
+use Rattle.model.specs.Rules.{_=?_, firstOf}
 use Rattle.model.specs.Lent.{ccwSize, ccwAt, flag, fetched, blockCount, recordSize, recordBytes, recordOf}
 use Rattle.model.specs.Parameters.{extentLength, extentIn}
 use Rattle.model.specs.Causes.{callCauses}
-use Rattle.model.specs.Commands.{Out, step}
-use Rattle.model.specs.Answer.{answerSize, wrongLength, channelStatus, residual, answerOf, goesOn}
-use Rattle.model.specs.Chain.{System, system, stepAt, next, more, run, start, Called, called, callOf}
-use Rattle.model.specs.Host.{Hosted, hostCallOf}
+use Rattle.model.specs.Answer.{wrongLength, channelStatus, residual, answerOf, goesOn}
+use Rattle.model.specs.Chain.{System, system, stepAt, next, more, run, start, callOf}
+use Rattle.model.specs.Host.{hostCallOf}
 use Rattle.model.specs.Safe.{Safe}
 use Rattle.model.specs.Moved.{InChain, Among, extentAt, SameBut, Moved, SameAfter, SameHosted}
 use Rattle.model.proofs.Picks.{pick-both}
