@@ -4,15 +4,12 @@
 --                  by value, and in place
 -- Assumes nothing.
 use Prim.Native.Nat.{ℕ}
-use mathlib.Core.Path.{_≡_, refl, sym, ap, _∙_}
+use mathlib.Core.Path.{_≡_}
 use mathlib.Core.List.{List}
-use Rattle.model.specs.declared.ccw.Ccw.{Ccw}
-use Rattle.model.specs.declared.extent.Extent.{Extent}
 use Rattle.model.specs.declared.record.Record.{Record}
 use Rattle.model.specs.Lent.{ccwAt}
-use Rattle.model.specs.Chain.{Called, call, classA}
-use Rattle.model.specs.Host.{resultOf}
-use Rattle.model.specs.Moved.{SameButOffset, SameData, KeptOutside, extentAt, Moved, SameAfter}
+use Rattle.model.specs.Chain.{classA}
+use Rattle.model.specs.Moved.{SameButOffset, SameData, KeptOutside, extentAt, Moved}
 use Rattle.model.proofs.MovedRun.{moved-same}
 use Rattle.lent.specs.declared.Ran.{Ran}
 use Rattle.lent.specs.Run.{Outcome, outcome, After, Made}

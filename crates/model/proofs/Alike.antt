@@ -9,14 +9,12 @@
 use Prim.Native.Nat.{ℕ, _+_, _-_, _*_, _≤_, _<_}
 use mathlib.Core.Path.{_≡_, refl, sym, ap, _∙_}
 use mathlib.Core.Logic.{_⊎_, inl, inr, ⊎-elim}
-use mathlib.Core.Bool.{Bool, true, false}
+use mathlib.Core.Bool.{true}
 use mathlib.Core.List.{List}
 use lib.ListN.{length, getD}
 use native.Mathlib.Omega.{arith}
-use native.Mathlib.Nat.{add-comm, add-assoc}
 use Rattle.moves.specs.Parts.{part, put}
 use Rattle.moves.proofs.Laws.{length-put, get-before, get-in, get-after, by-place, part-same, part-apart}
-use Rattle.model.specs.declared.ccw.Ccw.{Ccw}
 use Rattle.model.specs.declared.extent.Displacement.{Displacement}
 use Rattle.model.specs.declared.extent.Extent.{Extent}
 use Rattle.model.specs.declared.extent.Located.{Located}
@@ -24,7 +22,7 @@ use Rattle.model.specs.declared.record.Record.{Record}
 use Rattle.model.specs.declared.state.Before.{Before}
 use Rattle.model.specs.declared.state.State.{State}
 use Rattle.model.specs.declared.state.Done.{Done}
-use Rattle.model.specs.Lent.{fetched, delivered, blockCount, blockAt, blocksFrom, blocksInto}
+use Rattle.model.specs.Lent.{blockCount, blockAt, blocksFrom, blocksInto}
 use Rattle.model.specs.Parameters.{extentLength, extentIn, address}
 use Rattle.model.specs.Commands.{Out, after}
 use Rattle.model.specs.Safe.{InExtent}

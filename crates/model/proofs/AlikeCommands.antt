@@ -5,35 +5,31 @@
 --     accepted-alike    any accepted command
 --     step-alike        any command
 -- No contract cites this file.
-use Prim.Native.Nat.{ℕ, _+_, _-_, _*_, _≤_, _<_, min}
+use Prim.Native.Nat.{ℕ, _+_, _*_, _≤_, _<_, min}
 use mathlib.Core.Path.{_≡_, refl, sym, ap, _∙_}
-use mathlib.Core.Logic.{_⊎_, inl, inr, ⊎-elim}
-use mathlib.Core.Bool.{Bool, true, false}
-use mathlib.Core.List.{List, [], _∷_, _++_}
-use lib.ListN.{length, getD, take, length-take}
+use mathlib.Core.Bool.{true}
+use mathlib.Core.List.{List, [], _∷_}
+use lib.ListN.{length, take, length-take}
 use native.Mathlib.Omega.{arith}
-use borrow.Author.Tests.{eqb-true, eqb-false, ltb-false}
-use Rattle.moves.specs.Parts.{zeros, put}
+use borrow.Author.Tests.{eqb-true, ltb-false}
+use Rattle.moves.specs.Parts.{zeros}
 use Rattle.model.specs.declared.ccw.Ccw.{Ccw}
-use Rattle.model.specs.declared.extent.Extent.{Extent}
-use Rattle.model.specs.declared.extent.Located.{Located}
 use Rattle.model.specs.declared.record.Record.{Record}
 use Rattle.model.specs.declared.state.State.{State}
-use Rattle.model.specs.declared.state.Before.the-variants.{Other}
-use Rattle.model.specs.Names.{NO-OPERATION, DEFINE-EXTENT, LOCATE, READ, WRITE, SENSE, SENSE-TYPE, READ-LOG, write-check}
-use Rattle.model.specs.Rules.{_=?_, pick, oneOf, Rule, _when_, firstOf}
+use Rattle.model.specs.Names.{NO-OPERATION, DEFINE-EXTENT, LOCATE, READ, WRITE}
+use Rattle.model.specs.Rules.{_=?_, Rule, _when_, firstOf}
 use Rattle.model.specs.Lent.{fetched, delivered, blockCount, blocksFrom}
-use Rattle.model.specs.Parameters.{extentLength, extentIn, locateLength, locatedIn, address, reads, writes}
+use Rattle.model.specs.Parameters.{locateLength, locatedIn, address, reads, writes}
 use Rattle.model.specs.Causes.{channelCauses, unitCauses, extentCauses, defineExtentCauses, permissionCauses, locationCauses, locateCauses, readIplCauses, transferCauses, verdict, programCheck, a-locate}
 use Rattle.model.specs.Sense.{senseOf}
-use Rattle.model.specs.Log.{withSense, readCounted, writtenCounted, movementCounted, logOf, logReset}
+use Rattle.model.specs.Log.{withSense, movementCounted, logOf, logReset}
 use Rattle.model.specs.Commands.{Out, after, extentSet, locateSet, noOperation, defineExtent, locate, sent, sense, senseType, readLog, begun, read, write, accepted, refusal, refused, seen, decided, step}
 use Rattle.model.specs.Safe.{InExtent, Safe}
 use Rattle.model.proofs.Picks.{pick-both}
-use Rattle.model.proofs.Verdicts.{Failed, absent, never-given, failed-upto}
-use Rattle.model.proofs.Steps.{Admitted, Cases, accepted-cases, past-channel, own-cases, accepted-no-operation, accepted-define, accepted-locate, accepted-read, accepted-write, accepted-sense, accepted-sense-type, accepted-read-log}
+use Rattle.model.proofs.Verdicts.{absent, never-given, failed-upto}
+use Rattle.model.proofs.Steps.{Admitted, accepted-cases, past-channel, own-cases, accepted-no-operation, accepted-define, accepted-locate, accepted-read, accepted-write, accepted-sense, accepted-sense-type, accepted-read-log}
 use Rattle.model.proofs.Safety.{after-locate, locate-ok, safe-seen}
-use Rattle.model.proofs.Alike.{Place, Sound, States, Mains, Stores, Dones, Outs, states-after, mains-put, stores-read, stores-write}
+use Rattle.model.proofs.Alike.{Place, Sound, States, Mains, Stores, Outs, states-after, mains-put, stores-read, stores-write}
 use Rattle.model.proofs.AlikeVerdicts.{Fits, area, fetched-same, extent-here, extent-there, verdict-same}
 
 -- a refused command

@@ -8,19 +8,17 @@
 use Prim.Native.Nat.{ℕ, _+_, _-_, _≤_, _<_}
 use mathlib.Core.Path.{_≡_, refl, sym, ap, _∙_}
 use mathlib.Core.Logic.{_⊎_, inl, inr, ⊎-elim}
-use mathlib.Core.Bool.{Bool, true, false, not}
+use mathlib.Core.Bool.{Bool, true, not}
 use mathlib.Core.List.{List, [], _∷_, _++_}
-use lib.ListN.{length, getD}
+use lib.ListN.{getD}
 use native.Mathlib.Omega.{arith}
-use borrow.Author.Tests.{eqb-true, eqb-false, ltb-false, lt-ltb, eq-eqb}
-use Rattle.moves.specs.Parts.{part}
+use borrow.Author.Tests.{eqb-true, eqb-false, ltb-false, lt-ltb}
 use Rattle.moves.proofs.Laws.{get-part}
 use Rattle.model.specs.declared.ccw.Ccw.{Ccw}
 use Rattle.model.specs.declared.extent.Extent.{Extent}
-use Rattle.model.specs.declared.record.Record.{Record}
 use Rattle.model.specs.declared.state.State.{State}
-use Rattle.model.specs.Names.{DEFINE-EXTENT, LOCATE, READ, WRITE, READ-IPL}
-use Rattle.model.specs.Rules.{_<?_, _=?_, pick, Rule, _when_, firstOf}
+use Rattle.model.specs.Names.{DEFINE-EXTENT, LOCATE, READ-IPL}
+use Rattle.model.specs.Rules.{_<?_, Rule, _when_, firstOf}
 use Rattle.model.specs.Lent.{fetched, blockCount}
 use Rattle.model.specs.Parameters.{extentLength, extentIn, reservedIn, sizeIn, locateLength, address, outside, reads, writes}
 use Rattle.model.specs.Causes.{channelCauses, unitCauses, extentCauses, defineExtentCauses, permissionCauses, locationCauses, locateCauses, transferCauses, ownCauses, causesOf, verdict}

@@ -1,27 +1,30 @@
 -- The call from C.
---     host-is-call    where none of 1 to 6 holds, it is the call on the unit record that the bytes hold
+--     host-is-call    where there are 34 bytes of record, it is the call on the unit record that they hold
+--     host-no-record  where there are not, it is refused: by the call's own cause, or by 6
+--     set-up-record, set-up-none
+--                     the same of a record that is set up
 --     host-keeps      it keeps the length of each buffer, and bytes bytes
 --     result-reads    the one number holds both: the cause, and the commands reached
 -- Assumes nothing.
-use Prim.Native.Nat.{ℕ, _+_, _*_, _/_, _%_, _≤_, _<_}
+use Prim.Native.Nat.{ℕ, _/_, _%_, _<_}
 use mathlib.Core.Path.{_≡_, refl, sym, ap, _∙_}
-use mathlib.Core.Bool.{Bool, true, false, not}
-use mathlib.Core.List.{List, [], _∷_, _++_}
+use mathlib.Core.Bool.{not}
+use mathlib.Core.List.{List, [], _∷_}
 use lib.ListN.{length}
 use native.Mathlib.Omega.{arith}
-use borrow.Author.Tests.{eqb-true, eq-eqb, not-false}
+use borrow.Author.Tests.{eqb-true, eqb-false, eq-eqb, ne-eqb, not-false}
 use Rattle.numbers.specs.Bytes.{AreBytes}
-use Rattle.model.specs.Rules.{_=?_, pick, firstOf}
-use Rattle.model.specs.Lent.{recordSize, recordBytes, recordOf}
+use Rattle.model.specs.Rules.{_=?_, pick, _when_, firstOf}
+use Rattle.model.specs.Lent.{recordSize, recordBytes, recordOf, newRecord}
 use Rattle.model.specs.Causes.{callCauses, hostCauses}
-use Rattle.model.specs.Chain.{Called, callOf}
-use Rattle.model.specs.Host.{Hosted, resultOf, hosted, hostCallOf}
-use Rattle.model.proofs.Picks.{pick-ind, pick-true}
-use Rattle.model.proofs.Verdicts.{failed-upto, failed-all, none-given}
+use Rattle.model.specs.Chain.{callOf}
+use Rattle.model.specs.Host.{Hosted, resultOf, hosted, hostCallOf, setUp}
+use Rattle.model.proofs.Picks.{pick-ind, pick-true, pick-false}
+use Rattle.model.proofs.Verdicts.{failed-upto, failed-all, none-given, first-append}
+use Rattle.model.proofs.Refusals.{call-refused, host-refused}
 use Rattle.model.proofs.Lengths.{call-lengths}
-use Rattle.model.proofs.Fields.{IsRecord}
 use Rattle.model.proofs.Kept.{call-bytes}
-use Rattle.model.proofs.Records.{record-bytes-length, record-bytes, record-of}
+use Rattle.model.proofs.Records.{record-bytes-length, record-bytes, record-of, bytes-back}
 
 pub result-reads : (cause reached : ℕ) → reached < 256 → (resultOf cause reached / 256 ≡ cause) × (resultOf cause reached % 256 ≡ reached)
 unfolding resultOf
@@ -36,10 +39,37 @@ module _ (size : ℕ) (chain main store unit answers : List ℕ) where
       let g = failed-all 0 _ refl (f .1) in
       (none-given _ (f .0), eqb-true _ _ (not-false _ (g .0)))
 
-  pub host-is-call : firstOf (hostCauses size chain main store unit answers) ≡ 0
-      → hostCallOf size chain main store unit answers ≡ hosted (callOf size chain main store (recordOf unit) answers)
+  -- the verdict of 1 to 6, by that of 1 to 5
+  host-verdict : firstOf (hostCauses size chain main store unit answers)
+      ≡ pick (firstOf (callCauses size chain main store answers) =? 0) (pick (not (length unit =? recordSize)) 6 0) (firstOf (callCauses size chain main store answers))
+  unfolding hostCauses callCauses firstOf
+  host-verdict = first-append (callCauses size chain main store answers) (6 when not (length unit =? recordSize) ∷ []) refl
+
+  same-verdict : length unit ≡ recordSize → firstOf (hostCauses size chain main store unit answers) ≡ firstOf (callCauses size chain main store answers)
+  same-verdict e =
+      let w : ℕ = firstOf (callCauses size chain main store answers) in
+      host-verdict ∙ rw (eq-eqb _ _ e) (pick-ind (λ (v : ℕ). v ≡ w) (w =? 0) _ w (λ b. pick-false _ 6 0 refl ∙ sym (eqb-true _ _ b)) (λ _. refl))
+
+  pub host-is-call : length unit ≡ recordSize → hostCallOf size chain main store unit answers ≡ hosted (callOf size chain main store (recordOf unit) answers)
   unfolding hostCallOf
-  host-is-call e = pick-true _ _ _ (eq-eqb _ _ e)
+  host-is-call e =
+      rw (same-verdict e)
+      (pick-ind (λ (r : Hosted). r ≡ hosted (callOf size chain main store (recordOf unit) answers)) _ _ _ (λ _. refl)
+      (λ b. rw (call-refused size chain main store (recordOf unit) answers _ refl (eqb-false _ _ b), bytes-back unit e)))
+
+  pub host-no-record : (w : ℕ) → (length unit ≡ recordSize → ⊥) → firstOf (callCauses size chain main store answers) ≡ w
+      → hostCallOf size chain main store unit answers ≡ record { result = resultOf (pick (w =? 0) 6 w) 0; main = main; store = store; unit = unit; answers = answers }
+  host-no-record w n e =
+      let v : firstOf (hostCauses size chain main store unit answers) ≡ pick (w =? 0) 6 w = host-verdict ∙ rw (ne-eqb _ _ n, e) (ap (λ (x : ℕ). pick (w =? 0) x w) (pick-true _ 6 0 refl)) in
+      host-refused size chain main store unit answers _ v (pick-ind (λ (x : ℕ). x ≡ 0 → ⊥) (w =? 0) 6 w (λ _ z. omega arith) (λ b. eqb-false _ _ b))
+
+pub set-up-record : (unit : List ℕ) (ready readOnly : ℕ) → length unit ≡ recordSize → setUp unit ready readOnly ≡ record { result = 0; unit = recordBytes (newRecord ready readOnly) }
+unfolding setUp resultOf
+set-up-record unit ready readOnly e = pick-true _ _ _ (eq-eqb _ _ e)
+
+pub set-up-none : (unit : List ℕ) (ready readOnly : ℕ) → (length unit ≡ recordSize → ⊥) → setUp unit ready readOnly ≡ record { result = resultOf 6 0; unit = unit }
+unfolding setUp
+set-up-none unit ready readOnly n = pick-false _ _ _ (ne-eqb _ _ n)
 
 pub record HostKeeps (main store unit answers : List ℕ) (r : Hosted) : Type 0 where
   pub main-length : length (r .main) ≡ length main

@@ -4,33 +4,33 @@
 --                   a command, whether the chain goes on, the chain
 --     begin-alike   what the demand's sentences say is the relation at the start
 --     moved-same    the theorem
+--     moved-hosted  the same of calls from C
 -- Assumes nothing.
-use Prim.Native.Nat.{ℕ, zero, suc, _+_, _-_, _*_, _/_, _≤_, _<_}
+use Prim.Native.Nat.{ℕ, zero, suc, _+_, _/_, _≤_, _<_}
 use mathlib.Core.Path.{_≡_, refl, sym, ap, _∙_}
 use mathlib.Core.Bool.{Bool, true, false, _&&_, false≢true}
 use mathlib.Core.List.{List}
 use lib.ListN.{length, getD}
 use native.Mathlib.Omega.{arith}
-use Rattle.moves.specs.Parts.{part, put}
+use borrow.Author.Tests.{eqb-true, eqb-false}
 use Rattle.moves.proofs.Laws.{by-place, get-part}
 use Rattle.model.specs.declared.ccw.Ccw.{Ccw}
-use Rattle.model.specs.declared.extent.Extent.{Extent}
 use Rattle.model.specs.declared.record.Record.{Record}
-use Rattle.model.specs.declared.state.State.{State}
 use Rattle.model.specs.declared.state.Done.{Done}
-use Rattle.model.specs.Names.{DEFINE-EXTENT, chain-command}
-use Rattle.model.specs.Rules.{_=?_, pick, firstOf}
-use Rattle.model.specs.Lent.{ccwSize, ccwAt, flag, fetched, blockCount}
+use Rattle.model.specs.Names.{chain-command}
+use Rattle.model.specs.Rules.{_=?_, firstOf}
+use Rattle.model.specs.Lent.{ccwSize, ccwAt, flag, fetched, blockCount, recordSize, recordBytes, recordOf}
 use Rattle.model.specs.Parameters.{extentLength, extentIn}
 use Rattle.model.specs.Causes.{callCauses}
-use Rattle.model.specs.Commands.{Out, step}
-use Rattle.model.specs.Answer.{answerSize, wrongLength, channelStatus, residual, answerOf, goesOn}
-use Rattle.model.specs.Chain.{System, system, stepAt, next, more, run, start, Called, called, callOf}
+use Rattle.model.specs.Answer.{wrongLength, channelStatus, residual, answerOf, goesOn}
+use Rattle.model.specs.Chain.{System, system, stepAt, next, more, run, start, callOf}
+use Rattle.model.specs.Host.{hostCallOf}
 use Rattle.model.specs.Safe.{Safe}
-use Rattle.model.specs.Moved.{InChain, Among, extentAt, SameBut, Moved, SameAfter}
+use Rattle.model.specs.Moved.{InChain, Among, extentAt, SameBut, Moved, SameAfter, SameHosted}
 use Rattle.model.proofs.Picks.{pick-both}
 use Rattle.model.proofs.Verdicts.{both-true}
 use Rattle.model.proofs.Safety.{safe-start, step-safe}
+use Rattle.model.proofs.Hosts.{host-is-call, host-no-record}
 use Rattle.model.proofs.Alike.{Place, Sound, States, Mains, Stores, Dones, Outs, count-same}
 use Rattle.model.proofs.AlikeVerdicts.{Fits}
 use Rattle.model.proofs.AlikeCommands.{step-alike}
@@ -180,3 +180,35 @@ module _ (size : ℕ) (chain : List ℕ) (d : ℕ) (main main′ store store′ 
         outside = z .stores .kept;
         outside′ = z .stores .kept′;
       })
+
+  -- and so it can where C calls
+  pub moved-hosted : (unit answers : List ℕ)
+      → SameHosted size chain d main main′ store store′ (hostCallOf size chain main store unit answers) (hostCallOf size chain main′ store′ unit answers)
+  moved-hosted unit answers = go (length unit =? recordSize) refl
+    where
+      go : (b : Bool) → length unit =? recordSize ≡ b
+          → SameHosted size chain d main main′ store store′ (hostCallOf size chain main store unit answers) (hostCallOf size chain main′ store′ unit answers)
+      go true e =
+          let s = moved-same (recordOf unit) answers in
+          let l = eqb-true _ _ e in
+          rw (host-is-call size chain main store unit answers l, host-is-call size chain main′ store′ unit answers l) (record {
+            result = rw (s .cause, s .reached);
+            answers = s .answers;
+            unit = ap recordBytes (s .unit);
+            storage = s .storage;
+            blocks = s .blocks;
+            outside = s .outside;
+            outside′ = s .outside′;
+          })
+      go false e =
+          let w = ap firstOf (causes-same answers) in
+          let n = eqb-false _ _ e in
+          rw (host-no-record size chain main store unit answers _ n w, host-no-record size chain main′ store′ unit answers _ n refl) (record {
+            result = refl;
+            answers = refl;
+            unit = refl;
+            storage = h .typed;
+            blocks = h .blocks;
+            outside = λ _ _. refl;
+            outside′ = λ _ _. refl;
+          })

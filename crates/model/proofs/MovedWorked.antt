@@ -3,10 +3,9 @@
 --     moved-worked     what each of them gives, computed from the definition: equal answers and data, each store as it should be
 --     recount-differs  another block count typed in place of another offset: the data differ
 -- Assumes nothing.
-use Prim.Native.Nat.{ℕ, zero, suc, _+_, _*_, _≤_, _<_}
+use Prim.Native.Nat.{ℕ, _+_, _*_, _≤_, _<_}
 use mathlib.Core.Path.{_≡_, refl, sym, ap, _∙_}
-use mathlib.Core.Logic.{_⊎_, inl, inr}
-use mathlib.Core.Bool.{Bool, true, false, _||_}
+use mathlib.Core.Bool.{true, false, _||_}
 use mathlib.Core.List.{List, [], _∷_, _++_}
 use lib.Dec.{leb}
 use lib.ListN.{length, getD, drop, replicate}
@@ -19,7 +18,7 @@ use Rattle.model.specs.Names.{DEFINE-EXTENT, LOCATE, READ, WRITE, READ-I
 use Rattle.model.specs.Rules.{_=?_}
 use Rattle.model.specs.Lent.{ccwAt, blockAt, newRecord}
 use Rattle.model.specs.Chain.{Called, call, classA}
-use Rattle.model.specs.Moved.{InChain, Among, SameBut, OneExtent, ParametersAlone, Moved}
+use Rattle.model.specs.Moved.{SameBut, OneExtent, ParametersAlone, Moved}
 use Rattle.model.proofs.Opened.{opened}
 use Rattle.model.proofs.Inputs.{ccw, extent, location}
 

@@ -1,11 +1,13 @@
 -- The call as C makes it: the unit record comes and goes as bytes, and the result is one number.
 --     hostCallOf   refused as a whole by 1 to 6, or the call
 --     resultOf     "256 times the cause plus" the commands reached
+--     setUp        the bytes of a new unit's record, where there are 34 of them
 -- Assumes nothing.
 use Prim.Native.Nat.{ℕ, _+_, _*_}
 use mathlib.Core.List.{List}
+use lib.ListN.{length}
 use Rattle.model.specs.Rules.{_=?_, pick, firstOf}
-use Rattle.model.specs.Lent.{recordBytes, recordOf}
+use Rattle.model.specs.Lent.{recordSize, recordBytes, recordOf, newRecord}
 use Rattle.model.specs.Causes.{hostCauses}
 use Rattle.model.specs.Chain.{Called, callOf, classA}
 
@@ -31,3 +33,13 @@ hostCallOf size chain main store unit answers =
 
 abbrev pub hostCall : List ℕ → List ℕ → List ℕ → List ℕ → List ℕ → Hosted
 hostCall = hostCallOf classA
+
+-- the other call: a record is set up, or left as it is with cause 6
+pub record SetUp : Type 0 where
+  pub result : ℕ
+  pub unit : List ℕ
+
+unfoldable pub setUp : List ℕ → ℕ → ℕ → SetUp
+setUp unit ready readOnly =
+    pick (length unit =? recordSize) (record { result = resultOf 0 0; unit = recordBytes (newRecord ready readOnly) })
+    (record { result = resultOf 6 0; unit = unit })

@@ -3,7 +3,7 @@
 --     OneExtent, ParametersAlone, SameButOffset, HasRoom, SameData
 --                            the sentences of the demand, one each
 --     Moved                  all of them
---     SameAfter              what they come to
+--     SameAfter, SameHosted  what they come to, and the same of two calls from C
 -- Both calls have the chain, the unit record and the answers. That `Moved` gives `SameAfter` is `moved-same` in
 -- `proofs/MovedRun.antt`. Two sentences of the demand are not asked for: that the sixteen bytes lie in main storage, and
 -- that the first displacement is not above the last. Where one fails the DEFINE EXTENT is refused in both calls, and alike.
@@ -20,6 +20,7 @@ use Rattle.model.specs.Names.{DEFINE-EXTENT, READ-IPL, chain-command}
 use Rattle.model.specs.Lent.{ccwSize, ccwAt, flag, fetched, blockCount, blockAt}
 use Rattle.model.specs.Parameters.{extentLength, extentIn}
 use Rattle.model.specs.Chain.{Called}
+use Rattle.model.specs.Host.{Hosted}
 
 -- the chain, up to the CCW where it ends: each CCW before this one has flag 40
 pub record InChain (chain : List ℕ) (i : ℕ) : Type 0 where
@@ -84,6 +85,15 @@ pub record Moved (size : ℕ) (chain : List ℕ) (d : ℕ) (main main′ store s
 pub record SameAfter (size : ℕ) (chain : List ℕ) (d : ℕ) (main main′ store store′ : List ℕ) (r r′ : Called) : Type 0 where
   pub cause : r .cause ≡ r′ .cause
   pub reached : r .reached ≡ r′ .reached
+  pub answers : r .answers ≡ r′ .answers
+  pub unit : r .unit ≡ r′ .unit
+  pub storage : SameButOffset (ccwAt chain d) (r .main) (r′ .main)
+  pub blocks : SameData size (extentAt (ccwAt chain d) main) (extentAt (ccwAt chain d) main′) (r .store) (r′ .store)
+  pub outside : KeptOutside size (extentAt (ccwAt chain d) main) store (r .store)
+  pub outside′ : KeptOutside size (extentAt (ccwAt chain d) main′) store′ (r′ .store)
+
+pub record SameHosted (size : ℕ) (chain : List ℕ) (d : ℕ) (main main′ store store′ : List ℕ) (r r′ : Hosted) : Type 0 where
+  pub result : r .result ≡ r′ .result
   pub answers : r .answers ≡ r′ .answers
   pub unit : r .unit ≡ r′ .unit
   pub storage : SameButOffset (ccwAt chain d) (r .main) (r′ .main)

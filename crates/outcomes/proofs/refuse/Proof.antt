@@ -8,11 +8,9 @@ use Rattle.outcomes.proofs.refuse.Reads as reads
 use Rattle.outcomes.proofs.refuse.Lts as lts
 use Rattle.outcomes.proofs.unit_check.Reads as unit-check-reads
 
--- src/refusal.rt:69:5
 unit-check-requires : tie.Need-unit-check-requires
 unit-check-requires c κs = search needs
 
--- src/refusal.rt:65:1
 returns : tie.Need-returns
 returns c = λ p. c .unit-check .ensures ∙ refusal-any _ _ _ p (c .before .pre .2)
 

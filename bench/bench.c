@@ -1,0 +1,127 @@
+// Runs one workload N times on the library or on the second program, so that the difference between two values of N
+// gives the instructions of one call.
+//   bench WORKLOAD N lib|second
+//   bench list
+#include <stdio.h>
+#include <stdlib.h>
+#include <string.h>
+
+#include "loughrella.h"
+#include "second.h"
+
+#define BLOCK 512u
+#define DEVICE_BLOCKS 256u
+#define EXTENT_AT 0u    // places in storage
+#define LOCATE_AT 16u
+#define DATA_AT 24u
+
+typedef uint32_t run_function(const uint8_t *, size_t, uint8_t *, size_t, uint8_t *, size_t, uint8_t *, size_t, uint8_t *, size_t);
+
+struct machine {
+    uint8_t chain[256], storage[DATA_AT + 127 * BLOCK], store[DEVICE_BLOCKS * BLOCK], record[34], answers[256];
+    size_t chain_len;
+};
+
+static void word(struct machine *m, unsigned command, unsigned address, unsigned flags, unsigned count)
+{
+    uint8_t *w = m->chain + m->chain_len;
+    w[0] = (uint8_t)command;
+    w[1] = 0;
+    w[2] = (uint8_t)(address >> 8);
+    w[3] = (uint8_t)address;
+    w[4] = (uint8_t)flags;
+    w[5] = 0;
+    w[6] = (uint8_t)(count >> 8);
+    w[7] = (uint8_t)count;
+    m->chain_len += 8;
+}
+
+static void extent(struct machine *m)
+{
+    static const uint8_t whole[16] = {[15] = DEVICE_BLOCKS - 1};
+    memcpy(m->storage + EXTENT_AT, whole, 16);
+    word(m, 0x63, EXTENT_AT, 0x40, 16);
+}
+
+static void locate(struct machine *m, unsigned operation, unsigned blocks)
+{
+    const uint8_t p[8] = {(uint8_t)operation, 0, 0, (uint8_t)blocks, 0, 0, 0, 3};
+    memcpy(m->storage + LOCATE_AT, p, 8);
+    word(m, 0x43, LOCATE_AT, 0x40, 8);
+}
+
+// DEFINE EXTENT, LOCATE, and one transfer of so many bytes.
+static void transfer(struct machine *m, unsigned command, unsigned blocks, unsigned count)
+{
+    extent(m);
+    locate(m, command == 0x42 ? 6 : 1, blocks);
+    word(m, command, DATA_AT, 0x20, count);
+}
+
+static void read_1(struct machine *m) { transfer(m, 0x42, 1, BLOCK); }
+static void read_127(struct machine *m) { transfer(m, 0x42, 127, 127 * BLOCK); }
+static void write_1(struct machine *m) { transfer(m, 0x41, 1, BLOCK); }
+static void write_127(struct machine *m) { transfer(m, 0x41, 127, 127 * BLOCK); }
+static void write_1_short(struct machine *m) { transfer(m, 0x41, 1, BLOCK / 2); }
+static void write_127_short(struct machine *m) { transfer(m, 0x41, 127, 127 * BLOCK / 2); }
+
+static void read_15_pairs(struct machine *m)
+{
+    extent(m);
+    for (unsigned i = 0; i < 15; i++) {
+        locate(m, 6, 1);
+        word(m, 0x42, DATA_AT + BLOCK * i, i < 14 ? 0x40 : 0, BLOCK);
+    }
+}
+
+static void refused_call(struct machine *m)
+{
+    word(m, 0x03, 0, 0, 1);
+    m->chain_len = 9; // cause 1
+}
+
+static void refused_first(struct machine *m)
+{
+    locate(m, 6, 1); // cause 30: no extent
+    m->chain[4] = 0;
+}
+
+static void no_operations(struct machine *m)
+{
+    for (unsigned i = 0; i < 32; i++) word(m, 0x03, 0, i < 31 ? 0x40 : 0, 1);
+}
+
+static const struct { const char *name; void (*make)(struct machine *); uint32_t result; } workloads[] = {
+    {"read-1", read_1, 3}, {"read-127", read_127, 3}, {"write-1", write_1, 3}, {"write-127", write_127, 3},
+    {"write-1-short", write_1_short, 3}, {"write-127-short", write_127_short, 3}, {"locate-read-15", read_15_pairs, 31},
+    {"refused-cause-1", refused_call, 256}, {"refused-first-command", refused_first, 1}, {"no-operation-32", no_operations, 32},
+};
+#define WORKLOADS (sizeof workloads / sizeof *workloads)
+
+static int run(size_t which, unsigned long times, run_function *function)
+{
+    static struct machine m;
+    for (size_t i = 0; i < sizeof m.store; i++) m.store[i] = (uint8_t)(i * 7 + i / BLOCK);
+    for (size_t i = 0; i < sizeof m.storage; i++) m.storage[i] = (uint8_t)(i * 5);
+    second_record(m.record, sizeof m.record, 1, 0);
+    workloads[which].make(&m);
+    uint32_t wrong = 0;
+    for (unsigned long i = 0; i < times; i++)
+        wrong |= function(m.chain, m.chain_len, m.storage, sizeof m.storage, m.store, sizeof m.store, m.record, sizeof m.record,
+                          m.answers, sizeof m.answers) ^ workloads[which].result;
+    if (wrong != 0) fprintf(stderr, "%s: wrong result\n", workloads[which].name);
+    return wrong == 0 ? 0 : 1;
+}
+
+int main(int argc, char **argv)
+{
+    if (argc == 2 && strcmp(argv[1], "list") == 0) {
+        for (size_t i = 0; i < WORKLOADS; i++) puts(workloads[i].name);
+        return 0;
+    }
+    for (size_t i = 0; argc == 4 && i < WORKLOADS; i++)
+        if (strcmp(argv[1], workloads[i].name) == 0)
+            return run(i, strtoul(argv[2], NULL, 10), strcmp(argv[3], "lib") == 0 ? loughrella_run : second_run);
+    fprintf(stderr, "usage: bench WORKLOAD N lib|second, or bench list\n");
+    return 2;
+}

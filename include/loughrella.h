@@ -1,0 +1,103 @@
+/* Loughrella: a disk control unit to learn channel programming with (FIPS 97, fixed blocks of 512 bytes).
+ *
+ * Two functions. Neither keeps anything between calls, allocates, prints or fails: every input has its result, and all
+ * that is written is in the buffers that are lent. They may run at the same time on buffers of their own.
+ *
+ * A buffer is a pointer and its length in bytes; where the length is 0 the pointer may be anything, NULL too. The caller
+ * owns the buffers and gets them back when the function returns. The buffers of one call must not overlap: nothing is
+ * promised where they do. Numbers in them are big-endian.
+ *
+ * Link with libloughrella.a (code for x86-64; it calls memcpy, memmove and memset).
+ */
+#ifndef LOUGHRELLA_H
+#define LOUGHRELLA_H
+
+#include <stddef.h>
+#include <stdint.h>
+
+#ifdef __cplusplus
+extern "C" {
+#endif
+
+#define LOUGHRELLA_BLOCK_SIZE 512u       /* bytes of a block */
+#define LOUGHRELLA_MAX_BLOCKS 131072u    /* blocks of a store */
+#define LOUGHRELLA_MAX_STORAGE 16777216u /* bytes of main storage */
+#define LOUGHRELLA_MAX_CHAIN 256u        /* bytes of a chain: 32 CCWs */
+#define LOUGHRELLA_CCW_SIZE 8u
+#define LOUGHRELLA_ANSWER_SIZE 8u
+#define LOUGHRELLA_RECORD_SIZE 34u
+
+/* Runs one command chain on one device.
+ *
+ * chain    8 bytes per CCW: command, data address (3), flags, ignored, count (2). It ends at the first CCW without flag
+ *          40 hexadecimal; what follows is not looked at. Only read.
+ * storage  main storage, 0 to 16,777,216 bytes. A command's data area is its count of bytes from its address.
+ * store    the device, 1 to 131,072 blocks of 512 bytes, in a row.
+ * record   the unit record, 34 bytes, any values: sense (24), blocks read (3), blocks written with check (3), access
+ *          movements (2), ready (1), read-only (1). For the last two 0 is no and any other value is yes. It is what the
+ *          unit remembers from one call to the next; loughrella_record sets one up.
+ * answers  at least as long as the chain. Each command reached gets 8 bytes, in order: unit status, channel status,
+ *          residual count (2), cause, zero, blocks moved (2). The bytes of commands not reached stay as they are.
+ *
+ * Returns 256 times a cause plus the number of commands reached. With cause 0 that is 1 to 32 commands, and what each
+ * did is in its answer. With causes 1 to 6 no command was reached and no byte of any buffer was changed.
+ */
+uint32_t loughrella_run(const uint8_t *chain, size_t chain_len, uint8_t *storage, size_t storage_len, uint8_t *store,
+                        size_t store_len, uint8_t *record, size_t record_len, uint8_t *answers, size_t answers_len);
+
+/* Sets up the record of a unit: no sense, all counts zero, the two bytes as given (0 is no, any other value is yes).
+ * Returns 0; or 256 times LOUGHRELLA_BAD_RECORD, with nothing written, where the record is not 34 bytes. */
+uint32_t loughrella_record(uint8_t *record, size_t record_len, uint8_t ready, uint8_t read_only);
+
+/* The two parts of the result of loughrella_run. */
+#define LOUGHRELLA_CAUSE(result) ((result) / 256u)
+#define LOUGHRELLA_REACHED(result) ((result) % 256u)
+
+/* The causes: of a call (in its result), and of a refused command (in its answer). */
+enum loughrella_cause {
+    LOUGHRELLA_ACCEPTED = 0,
+
+    /* the call was refused: nothing was run and nothing written; the first of them that holds */
+    LOUGHRELLA_BAD_CHAIN = 1,     /* chain length 0, over 256 or no multiple of 8 */
+    LOUGHRELLA_BAD_STORE = 2,     /* store length 0, no multiple of 512, or over 131,072 blocks */
+    LOUGHRELLA_BAD_STORAGE = 3,   /* main storage over 16,777,216 bytes */
+    LOUGHRELLA_BAD_ANSWERS = 4,   /* answers shorter than the chain */
+    LOUGHRELLA_ENDLESS_CHAIN = 5, /* every CCW has flag 40 */
+    LOUGHRELLA_BAD_RECORD = 6,    /* the unit record is not 34 bytes */
+
+    /* program checks: unit status 00, channel status 20; the unit did not see the command */
+    LOUGHRELLA_BAD_FLAGS = 10,      /* a flag other than 40 and 20 is on */
+    LOUGHRELLA_NO_COUNT = 11,       /* the count is 0 */
+    LOUGHRELLA_OUTSIDE_STORAGE = 12, /* the data area leaves main storage */
+    LOUGHRELLA_NO_COMMAND = 13,     /* the low four bits of the command are 0 or 8 */
+
+    /* unit checks: unit status 0E, and new sense in the record */
+    LOUGHRELLA_EXTENT_SHORT = 20,       /* DEFINE EXTENT: count under 16 */
+    LOUGHRELLA_EXTENT_STANDS = 21,      /* an extent stands already in this chain */
+    LOUGHRELLA_BAD_MASK = 22,           /* mask bits 0-1 are 10, or one of bits 2, 3, 6, 7 is on, or byte 1 is not 0 */
+    LOUGHRELLA_MAINTENANCE = 23,        /* mask bit 4 is on */
+    LOUGHRELLA_BAD_BLOCK_SIZE = 24,     /* block size neither 0 nor 512 */
+    LOUGHRELLA_FIRST_AFTER_LAST = 25,   /* first displacement greater than last */
+    LOUGHRELLA_EXTENT_OUTSIDE = 26,     /* the extent leaves the device */
+    LOUGHRELLA_NO_EXTENT = 30,          /* LOCATE: no extent in this chain */
+    LOUGHRELLA_LOCATE_SHORT = 31,       /* count under 8 */
+    LOUGHRELLA_BAD_MODIFIER = 32,       /* modifier bit 0, 1 or 2 is on */
+    LOUGHRELLA_BAD_OPERATION = 33,      /* not one of the five operations */
+    LOUGHRELLA_BAD_BLOCK_COUNT = 34,    /* block count 0, or not 1 for a format */
+    LOUGHRELLA_BAD_REPLICATION = 35,    /* replication count below the block count, or no multiple of it */
+    LOUGHRELLA_OUTSIDE_EXTENT = 36,     /* a block to be processed is outside the extent */
+    LOUGHRELLA_MASK_FORBIDS = 37,       /* the mask forbids the operation */
+    LOUGHRELLA_READ_ONLY = 38,          /* the unit is read-only, and the operation writes or formats */
+    LOUGHRELLA_NO_ALTERNATE = 39,       /* a format, and the unit has no alternate blocks */
+    LOUGHRELLA_IPL_NOT_FIRST = 40,      /* READ IPL neither first in its chain nor after a READ IPL */
+    LOUGHRELLA_NO_LOCATE = 41,          /* READ or WRITE not directly after an accepted LOCATE */
+    LOUGHRELLA_OTHER_DIRECTION = 42,    /* READ after a LOCATE that writes, or WRITE after one that reads */
+    LOUGHRELLA_UNKNOWN_COMMAND = 43,    /* not a command of this unit */
+    LOUGHRELLA_NOT_READY = 44           /* the unit is not ready */
+};
+
+#ifdef __cplusplus
+}
+#endif
+
+#endif

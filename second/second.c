@@ -1,0 +1,332 @@
+#include "second.h"
+
+#include <stdbool.h>
+#include <string.h>
+
+// What is lent (01, "What is lent").
+#define BLOCK 512u
+#define CCW_SIZE 8u
+#define ANSWER_SIZE 8u
+#define MAX_CHAIN 256u
+#define MAX_BLOCKS 131072u
+#define MAX_STORAGE 16777216u
+
+// The unit record's places. The sense comes first.
+enum { SENSE_SIZE = 24, BLOCKS_READ = 24, BLOCKS_CHECKED = 27, MOVEMENTS = 30, READY = 32, READ_ONLY = 33, RECORD_SIZE = 34 };
+
+enum { // Command bytes
+    READ_IPL = 0x02, NO_OPERATION = 0x03, SENSE = 0x04, WRITE = 0x41, READ = 0x42, LOCATE = 0x43,
+    DEFINE_EXTENT = 0x63, READ_LOG = 0xA4, SENSE_TYPE = 0xE4
+};
+
+enum { CHAIN_COMMAND = 0x40, SUPPRESS_LENGTH = 0x20 };                    // Flags
+enum { CHANNEL_END_DEVICE_END = 0x0C, UNIT_CHECK = 0x02 };                // Unit status
+enum { INCORRECT_LENGTH = 0x40, PROGRAM_CHECK = 0x20 };                   // Channel status
+enum { FIRST_UNIT_CHECK = 20, NO_ALTERNATE = 39, LAST_CAUSE = 44 };       // Causes with a place of their own
+
+// Operations of LOCATE, as sets, so that a mask's permission is one set too.
+#define OPERATION(code) (1u << (code))
+#define FORMAT OPERATION(4)
+#define WRITE_CHECK OPERATION(5)
+#define READ_REPLICATED OPERATION(2)
+#define WRITES (OPERATION(1) | WRITE_CHECK)
+#define READS (OPERATION(6) | READ_REPLICATED)
+
+// What mask bits 0-1 allow; 10 is refused by cause 22.
+static const uint32_t allowed[4] = {READS | WRITES, READS, 0, READS | WRITES | FORMAT};
+
+// Sense bytes 0, 1 and 7 of each unit check (docs/SENSE.md).
+static const uint8_t sense_of[LAST_CAUSE + 1 - FIRST_UNIT_CHECK][3] = {
+    [20 - 20] = {0x80, 0x00, 0x03}, [21 - 20] = {0x80, 0x00, 0x02}, [22 - 20] = {0x80, 0x00, 0x04},
+    [23 - 20] = {0x80, 0x00, 0x04}, [24 - 20] = {0x80, 0x40, 0x04}, [25 - 20] = {0x80, 0x00, 0x04},
+    [26 - 20] = {0x80, 0x00, 0x04}, [30 - 20] = {0x80, 0x00, 0x02}, [31 - 20] = {0x80, 0x00, 0x03},
+    [32 - 20] = {0x80, 0x00, 0x04}, [33 - 20] = {0x80, 0x00, 0x04}, [34 - 20] = {0x80, 0x00, 0x04},
+    [35 - 20] = {0x80, 0x00, 0x04}, [36 - 20] = {0x80, 0x04, 0x04}, [37 - 20] = {0x80, 0x00, 0x04},
+    [38 - 20] = {0x80, 0x02, 0x00}, [39 - 20] = {0x80, 0x01, 0x0C}, [40 - 20] = {0x80, 0x00, 0x02},
+    [41 - 20] = {0x80, 0x00, 0x02}, [42 - 20] = {0x80, 0x00, 0x02}, [43 - 20] = {0x80, 0x00, 0x01},
+    [44 - 20] = {0x40, 0x00, 0x10},
+};
+
+static const uint8_t device_type[7] = {0xFF, 0x00, 0x97, 0x01, 0x05, 0x12, 0x01};
+
+struct ccw {
+    uint32_t address, count;
+    uint8_t command, flags;
+};
+
+// What an accepted command can move, and the blocks it began.
+struct work {
+    uint32_t can_move, blocks;
+};
+
+// One chain's run: the buffers, the extent, the last accepted LOCATE and the command directly before.
+struct run {
+    uint8_t *storage, *store, *record;
+    size_t storage_len;
+    uint32_t device_blocks;
+    uint32_t offset, first, last;             // the extent, if one stands
+    uint32_t operation, block, block_count;   // the LOCATE, if one was accepted
+    uint8_t mask, before;                     // before is 0 at the chain's first command
+    bool extent;
+};
+
+static uint32_t get16(const uint8_t *p) { return (uint32_t)p[0] << 8 | p[1]; }
+static uint32_t get24(const uint8_t *p) { return (uint32_t)p[0] << 16 | get16(p + 1); }
+static uint32_t get32(const uint8_t *p) { return (uint32_t)p[0] << 24 | get24(p + 1); }
+
+static void put16(uint8_t *p, uint32_t value)
+{
+    p[0] = (uint8_t)(value >> 8);
+    p[1] = (uint8_t)value;
+}
+
+static void put24(uint8_t *p, uint32_t value)
+{
+    p[0] = (uint8_t)(value >> 16);
+    put16(p + 1, value);
+}
+
+static uint32_t smaller(uint32_t a, uint32_t b) { return a < b ? a : b; }
+
+// Adds to a count of the log; a full count stays at its largest value.
+static void count24(uint8_t *field, uint32_t amount) { put24(field, smaller(get24(field) + amount, 0xFFFFFF)); }
+static void count16(uint8_t *field, uint32_t amount) { put16(field, smaller(get16(field) + amount, 0xFFFF)); }
+
+// Moves as much of the data as the count takes into the data area; returns the bytes moved.
+static uint32_t send(const struct run *r, const struct ccw *c, const uint8_t *data, uint32_t size)
+{
+    uint32_t moved = smaller(c->count, size);
+    memcpy(r->storage + c->address, data, moved);
+    return moved;
+}
+
+static uint32_t define_extent(struct run *r, const struct ccw *c, struct work *w)
+{
+    const uint8_t *p = r->storage + c->address;
+    if (c->count < 16) return 20;
+    if (r->extent) return 21;
+    if (p[0] >> 6 == 2 || (p[0] & 0x33) != 0 || p[1] != 0) return 22;
+    if ((p[0] & 0x08) != 0) return 23;
+    uint32_t size = get16(p + 2), offset = get32(p + 4), first = get32(p + 8), last = get32(p + 12);
+    if (size != 0 && size != BLOCK) return 24;
+    if (first > last) return 25;
+    if ((uint64_t)offset + (last - first) >= r->device_blocks) return 26;
+    r->extent = true;
+    r->mask = p[0];
+    r->offset = offset;
+    r->first = first;
+    r->last = last;
+    w->can_move = 16;
+    return 0;
+}
+
+static uint32_t locate(struct run *r, const struct ccw *c, struct work *w)
+{
+    const uint8_t *p = r->storage + c->address;
+    if (!r->extent) return 30;
+    if (c->count < 8) return 31;
+    if ((p[0] & 0xE0) != 0) return 32; // bit 3 is ignored (R1)
+    uint32_t operation = OPERATION(p[0] & 0x0F), blocks = get16(p + 2), displacement = get32(p + 4), range = blocks;
+    if ((operation & (READS | WRITES | FORMAT)) == 0) return 33;
+    if (blocks == 0 || (operation == FORMAT && blocks != 1)) return 34;
+    if (operation == READ_REPLICATED) {
+        range = p[1];
+        if (range < blocks || range % blocks != 0) return 35;
+    }
+    if (displacement < r->first || (uint64_t)displacement + range - 1 > r->last) return 36;
+    if ((operation & allowed[r->mask >> 6]) == 0) return 37;
+    if (r->record[READ_ONLY] != 0 && (operation & (WRITES | FORMAT)) != 0) return 38;
+    if (operation == FORMAT) return NO_ALTERNATE;
+    r->operation = operation;
+    r->block = displacement - r->first + r->offset;
+    r->block_count = blocks;
+    count16(r->record + MOVEMENTS, 1);
+    w->can_move = 8;
+    return 0;
+}
+
+static uint32_t read_data(struct run *r, const struct ccw *c, struct work *w)
+{
+    if (r->before != LOCATE) return 41;
+    if ((r->operation & READS) == 0) return 42;
+    w->can_move = BLOCK * r->block_count;
+    uint32_t moved = send(r, c, r->store + (size_t)BLOCK * r->block, w->can_move);
+    w->blocks = (moved + BLOCK - 1) / BLOCK;
+    count24(r->record + BLOCKS_READ, w->blocks);
+    return 0;
+}
+
+// Every block of the LOCATE is stored: the data, then zeros (R2). With the check, all of them count (R3).
+static uint32_t write_data(struct run *r, const struct ccw *c, struct work *w)
+{
+    if (r->before != LOCATE) return 41;
+    if ((r->operation & WRITES) == 0) return 42;
+    w->can_move = BLOCK * r->block_count;
+    uint32_t moved = smaller(c->count, w->can_move);
+    uint8_t *target = r->store + (size_t)BLOCK * r->block;
+    memcpy(target, r->storage + c->address, moved);
+    memset(target + moved, 0, w->can_move - moved);
+    w->blocks = (moved + BLOCK - 1) / BLOCK;
+    if (r->operation == WRITE_CHECK) count24(r->record + BLOCKS_CHECKED, r->block_count);
+    return 0;
+}
+
+static uint32_t read_ipl(struct run *r, const struct ccw *c, struct work *w)
+{
+    if (r->before != 0 && r->before != READ_IPL) return 40; // chained from a READ IPL it is accepted (R4)
+    r->extent = true;
+    r->mask = 0;
+    r->offset = 0;
+    r->first = 0;
+    r->last = r->device_blocks - 1;
+    send(r, c, r->store, BLOCK);
+    count24(r->record + BLOCKS_READ, 1);
+    count16(r->record + MOVEMENTS, 1);
+    w->can_move = BLOCK;
+    w->blocks = 1;
+    return 0;
+}
+
+static uint32_t sense(struct run *r, const struct ccw *c, struct work *w)
+{
+    send(r, c, r->record, SENSE_SIZE);
+    memset(r->record, 0, SENSE_SIZE);
+    w->can_move = SENSE_SIZE;
+    return 0;
+}
+
+static uint32_t sense_type(struct run *r, const struct ccw *c, struct work *w)
+{
+    send(r, c, device_type, sizeof device_type);
+    w->can_move = sizeof device_type;
+    return 0;
+}
+
+static uint32_t read_log(struct run *r, const struct ccw *c, struct work *w)
+{
+    uint8_t log[SENSE_SIZE] = {[2] = 0x10, [7] = 0x68}; // Environmental Data Present (R7); format 6, message 8
+    memcpy(log + 8, r->record + BLOCKS_READ, 3);
+    memcpy(log + 15, r->record + BLOCKS_CHECKED, 3);
+    memcpy(log + 19, r->record + MOVEMENTS, 2);
+    send(r, c, log, sizeof log);
+    memset(r->record + BLOCKS_READ, 0, READY - BLOCKS_READ);
+    w->can_move = sizeof log;
+    return 0;
+}
+
+// Causes 13, 10, 11 and 12: what the channel refuses before the unit sees the command.
+static uint32_t program_check(const struct run *r, const struct ccw *c)
+{
+    if ((c->command & 0x07) == 0) return 13;
+    if ((c->flags & ~(CHAIN_COMMAND | SUPPRESS_LENGTH)) != 0) return 10;
+    if (c->count == 0) return 11;
+    if (c->command != NO_OPERATION && (size_t)c->address + c->count > r->storage_len) return 12;
+    return 0;
+}
+
+// The command as the unit sees it: causes 44, 43, then the command's own.
+static uint32_t unit_command(struct run *r, const struct ccw *c, struct work *w)
+{
+    if (c->command != NO_OPERATION && c->command != SENSE) memset(r->record, 0, SENSE_SIZE);
+    if (r->record[READY] == 0 && c->command != SENSE && c->command != SENSE_TYPE) return 44;
+    switch (c->command) {
+    case NO_OPERATION: return 0;
+    case DEFINE_EXTENT: return define_extent(r, c, w);
+    case LOCATE: return locate(r, c, w);
+    case READ: return read_data(r, c, w);
+    case WRITE: return write_data(r, c, w);
+    case READ_IPL: return read_ipl(r, c, w);
+    case SENSE: return sense(r, c, w);
+    case SENSE_TYPE: return sense_type(r, c, w);
+    case READ_LOG: return read_log(r, c, w);
+    default: return 43;
+    }
+}
+
+// New sense after a unit check; cause 39 also keeps the LOCATE's parameters (R5).
+static void set_sense(struct run *r, const struct ccw *c, uint32_t cause)
+{
+    const uint8_t *bytes = sense_of[cause - FIRST_UNIT_CHECK];
+    memset(r->record, 0, SENSE_SIZE);
+    r->record[0] = bytes[0];
+    r->record[1] = bytes[1];
+    r->record[7] = bytes[2];
+    if (cause == NO_ALTERNATE) memcpy(r->record + 8, r->storage + c->address, 8);
+}
+
+static void put_answer(uint8_t *answer, uint8_t unit, uint8_t channel, uint32_t residual, uint32_t cause, uint32_t blocks)
+{
+    answer[0] = unit;
+    answer[1] = channel;
+    put16(answer + 2, residual);
+    answer[4] = (uint8_t)cause;
+    answer[5] = 0;
+    put16(answer + 6, blocks);
+}
+
+// Runs one command and writes its answer; tells whether the chain may go on.
+static bool run_command(struct run *r, const struct ccw *c, uint8_t *answer)
+{
+    struct work w = {0, 0};
+    uint32_t cause = program_check(r, c);
+    if (cause != 0) {
+        put_answer(answer, 0, PROGRAM_CHECK, c->count, cause, 0);
+        return false;
+    }
+    cause = unit_command(r, c, &w);
+    if (cause != 0) {
+        set_sense(r, c, cause);
+        put_answer(answer, CHANNEL_END_DEVICE_END | UNIT_CHECK, 0, c->count, cause, 0);
+        return false;
+    }
+    bool incorrect = (c->flags & SUPPRESS_LENGTH) == 0 && c->count != w.can_move && c->command != NO_OPERATION;
+    uint32_t residual = c->count - smaller(c->count, w.can_move);
+    put_answer(answer, CHANNEL_END_DEVICE_END, incorrect ? INCORRECT_LENGTH : 0, residual, 0, w.blocks);
+    return !incorrect;
+}
+
+static bool chain_ends(const uint8_t *chain, size_t chain_len)
+{
+    for (size_t i = 4; i < chain_len; i += CCW_SIZE)
+        if ((chain[i] & CHAIN_COMMAND) == 0) return true;
+    return false;
+}
+
+static uint32_t call_cause(const uint8_t *chain, size_t chain_len, size_t storage_len, size_t store_len,
+                           size_t record_len, size_t answers_len)
+{
+    if (chain_len == 0 || chain_len > MAX_CHAIN || chain_len % CCW_SIZE != 0) return 1;
+    if (store_len == 0 || store_len % BLOCK != 0 || store_len / BLOCK > MAX_BLOCKS) return 2;
+    if (storage_len > MAX_STORAGE) return 3;
+    if (answers_len < chain_len) return 4;
+    if (!chain_ends(chain, chain_len)) return 5;
+    if (record_len != RECORD_SIZE) return 6;
+    return 0;
+}
+
+uint32_t second_run(const uint8_t *chain, size_t chain_len, uint8_t *storage, size_t storage_len,
+                    uint8_t *store, size_t store_len, uint8_t *record, size_t record_len,
+                    uint8_t *answers, size_t answers_len)
+{
+    uint32_t cause = call_cause(chain, chain_len, storage_len, store_len, record_len, answers_len);
+    if (cause != 0) return 256 * cause;
+    struct run r = {.storage = storage, .store = store, .record = record, .storage_len = storage_len,
+                    .device_blocks = (uint32_t)(store_len / BLOCK)};
+    for (uint32_t reached = 0;;) {
+        const uint8_t *p = chain + CCW_SIZE * reached;
+        struct ccw c = {.command = p[0], .address = get24(p + 1), .flags = p[4], .count = get16(p + 6)};
+        bool chaining = run_command(&r, &c, answers + ANSWER_SIZE * reached);
+        reached++;
+        if (!chaining || (c.flags & CHAIN_COMMAND) == 0) return reached;
+        r.before = c.command;
+    }
+}
+
+uint32_t second_record(uint8_t *record, size_t record_len, uint8_t ready, uint8_t read_only)
+{
+    if (record_len != RECORD_SIZE) return 256 * 6;
+    memset(record, 0, RECORD_SIZE);
+    record[READY] = ready;
+    record[READ_ONLY] = read_only;
+    return 0;
+}

@@ -1,0 +1,25 @@
+// The second program: document 01 as docs/MISMATCHES.md settles it, written afresh in C.
+#ifndef SECOND_H
+#define SECOND_H
+
+#include <stddef.h>
+#include <stdint.h>
+
+#ifdef __cplusplus
+extern "C" {
+#endif
+
+// Runs one command chain. The five slices do not overlap; one of length 0 may be NULL.
+// Returns 256 times the call's cause plus the number of commands reached.
+uint32_t second_run(const uint8_t *chain, size_t chain_len, uint8_t *storage, size_t storage_len,
+                    uint8_t *store, size_t store_len, uint8_t *record, size_t record_len,
+                    uint8_t *answers, size_t answers_len);
+
+// Sets up a unit record: sense and counts zero. Returns 0, or 256 times 6 with nothing written.
+uint32_t second_record(uint8_t *record, size_t record_len, uint8_t ready, uint8_t read_only);
+
+#ifdef __cplusplus
+}
+#endif
+
+#endif

@@ -1,0 +1,185 @@
+// Bad input at the boundary, and good input flush against it: nothing outside a buffer may be touched.
+#include "test.h"
+#include "words.h"
+
+#include <stdio.h>
+#include <string.h>
+
+static const uint8_t listed[9] = {0x03, 0x63, 0x43, 0x42, 0x41, 0x02, 0x04, 0xE4, 0xA4};
+static const size_t plain_length[BUFFERS] = {24, 40, 1024, 34, 24};
+
+static bool same_as_second(const struct buffers *library, const struct buffers *twin)
+{
+    uint8_t record[RECORD_SIZE] = {0};
+    if (library->at[RECORD] != NULL)
+        memcpy(record, library->at[RECORD], library->length[RECORD] < RECORD_SIZE ? library->length[RECORD] : RECORD_SIZE);
+    uint32_t wanted = call_second(twin), result = call_library(library);
+    if (result == wanted && buffers_equal(library, twin)) return true;
+    if (result != wanted) printf("  result %lu, not %lu\n", (unsigned long)result, (unsigned long)wanted);
+    print_input(twin, record);
+    return false;
+}
+
+static void fill_random(struct random *r, const struct buffers *b)
+{
+    for (int i = 0; i < BUFFERS; i++) random_fill(r, b->at[i], b->length[i]);
+}
+
+// Every byte random, lengths random too. One chain in two has flags and counts that let it go further.
+static bool random_bytes(struct random *r, bool at_end)
+{
+    for (int run = 0; run < 20000; run++) {
+        struct buffers library, twin;
+        size_t length[BUFFERS] = {8 * (size_t)random_below(r, 34), random_below(r, 600), BLOCK * (size_t)random_below(r, 5), 34, 0};
+        length[ANSWERS] = length[CHAIN] + random_below(r, 3);
+        if (random_below(r, 4) == 0) length[random_below(r, BUFFERS)] = random_below(r, 1100);
+        buffers_place(&library, &twin, length, at_end);
+        fill_random(r, &library);
+        for (size_t i = 0; run % 2 == 0 && i + 8 <= length[CHAIN]; i += 8) {
+            uint8_t *w = library.at[CHAIN] + i;
+            w[1] = 0;
+            w[2] &= 1;
+            w[4] &= 0x60;
+            w[6] = 0;
+            w[0] = listed[random_below(r, 9)];
+        }
+        buffers_copy(&library, &twin);
+        if (!same_as_second(&library, &twin)) return false;
+    }
+    return true;
+}
+
+// Each of the five lengths right, one less and one more, in all 243 ways.
+static bool lengths_just_off(struct random *r, bool at_end)
+{
+    for (int way = 0; way < 243; way++) {
+        struct buffers library, twin;
+        size_t length[BUFFERS];
+        for (int i = 0, rest = way; i < BUFFERS; i++, rest /= 3) length[i] = plain_length[i] + (size_t)(rest % 3) - 1;
+        buffers_place(&library, &twin, length, at_end);
+        fill_random(r, &library);
+        uint8_t chain[24];
+        text_bytes(chain, sizeof chain, "E4 000000 60 00 0028 A4 000010 40 00 0018 04 000000 00 00 0018");
+        memcpy(library.at[CHAIN], chain, length[CHAIN] < sizeof chain ? length[CHAIN] : sizeof chain);
+        buffers_copy(&library, &twin);
+        if (!same_as_second(&library, &twin)) return printf("  way %d\n", way), false;
+    }
+    return true;
+}
+
+// NULL with length 0 for each set of buffers; the cause is the lowest that the missing ones give, storage gives none.
+static bool null_buffers(void)
+{
+    for (unsigned missing = 0; missing < 32; missing++) {
+        struct buffers library, twin;
+        size_t length[BUFFERS];
+        memcpy(length, plain_length, sizeof length);
+        for (int i = 0; i < BUFFERS; i++)
+            if ((missing >> i & 1) != 0) length[i] = 0;
+        buffers_place(&library, &twin, length, true);
+        if (length[CHAIN] > 0) text_bytes(library.at[CHAIN], 24, "03 000000 40 00 0001 03 000000 40 00 0001 03 000000 00 00 0001");
+        buffers_copy(&library, &twin);
+        bool chain = (missing & 1) != 0, store = (missing & 4) != 0, record = (missing & 8) != 0, answers = (missing & 16) != 0;
+        uint32_t expected = chain ? 0x100 : store ? 0x200 : answers ? 0x400 : record ? 0x600 : 3;
+        if (!record) twin.at[RECORD][32] = library.at[RECORD][32] = 1;
+        if (expected == 3) text_bytes(twin.at[ANSWERS], 24, NOP_DONE NOP_DONE NOP_DONE);
+        for (int i = 0; i < BUFFERS; i++)
+            if ((missing >> i & 1) != 0) library.at[i] = twin.at[i] = NULL;
+        uint32_t result = call_library(&library);
+        if (result != expected || !buffers_equal(&library, &twin)) return printf("  missing %02X\n", missing), false;
+    }
+    return true;
+}
+
+// With no storage every command that has a data area is refused, and storage may be NULL.
+static bool null_storage(void)
+{
+    static const uint8_t commands[] = {0x63, 0x43, 0x42, 0x41, 0x02, 0x04, 0xE4, 0xA4, 0xFF};
+    for (size_t i = 0; i < sizeof commands; i++) {
+        struct buffers library, twin;
+        size_t length[BUFFERS] = {8, 0, 512, 34, 8};
+        buffers_place(&library, &twin, length, true);
+        text_bytes(library.at[CHAIN], 8, "00 000000 20 00 0001");
+        library.at[CHAIN][0] = commands[i];
+        text_bytes(library.at[RECORD], RECORD_SIZE, PENDING_RECORD);
+        buffers_copy(&library, &twin);
+        text_bytes(twin.at[ANSWERS], 8, PROGRAM("0001", "0C"));
+        library.at[STORAGE] = twin.at[STORAGE] = NULL;
+        if (call_library(&library) != 1 || !buffers_equal(&library, &twin)) return printf("  command %02X\n", commands[i]), false;
+    }
+    return true;
+}
+
+// One command whose data area is the whole of storage, which lies against the guard.
+static bool whole_area(struct random *r, const char *chain, uint32_t count, bool at_end)
+{
+    struct buffers library, twin;
+    size_t length[BUFFERS] = {text_bytes(NULL, MAX_CHAIN, chain), count, 1024, 34, 0};
+    length[ANSWERS] = length[CHAIN];
+    buffers_place(&library, &twin, length, at_end);
+    fill_random(r, &library);
+    text_bytes(library.at[CHAIN], MAX_CHAIN, chain);
+    text_bytes(library.at[RECORD] + 32, 2, READY_RW);
+    uint8_t *last = library.at[CHAIN] + length[CHAIN] - 8;
+    last[6] = (uint8_t)(count >> 8);
+    last[7] = (uint8_t)count;
+    buffers_copy(&library, &twin);
+    return same_as_second(&library, &twin);
+}
+
+static bool whole_areas(struct random *r, bool at_end)
+{
+    static const char *const chains[] = {"04 000000 20 00 0000", "E4 000000 20 00 0000", "A4 000000 20 00 0000",
+                                         "02 000000 20 00 0000", "63 000000 20 00 0000"};
+    for (size_t i = 0; i < COUNT_OF(chains); i++)
+        for (uint32_t count = 1; count < 1100; count += count < 40 || (count > 500 && count < 520) ? 1 : 17)
+            if (!whole_area(r, chains[i], count, at_end)) return printf("  chain %s\n", chains[i]), false;
+    return whole_area(r, chains[0], 65535, at_end);
+}
+
+// READ and WRITE of each block of a store that lies against the guard, into and from the whole of storage.
+static bool whole_transfer(struct random *r, uint8_t operation, uint32_t block, uint32_t blocks, uint32_t count, bool at_end)
+{
+    struct buffers library, twin;
+    size_t length[BUFFERS] = {24, count, 3 * BLOCK, 34, 24};
+    buffers_place(&library, &twin, length, at_end);
+    fill_random(r, &library);
+    text_bytes(library.at[CHAIN], 24, "02 000000 60 00 0001 43 000000 60 00 0008 41 000000 20 00 0000");
+    if (operation == 6) library.at[CHAIN][16] = 0x42;
+    library.at[CHAIN][22] = (uint8_t)(count >> 8);
+    library.at[CHAIN][23] = (uint8_t)count;
+    library.at[STORE][0] = operation; // the READ IPL brings the operation byte
+    text_bytes(library.at[STORAGE], 8, "00000000 00000000");
+    library.at[STORAGE][3] = (uint8_t)blocks;
+    library.at[STORAGE][7] = (uint8_t)block;
+    text_bytes(library.at[RECORD] + 32, 2, READY_RW);
+    buffers_copy(&library, &twin);
+    return same_as_second(&library, &twin);
+}
+
+static bool whole_transfers(struct random *r, bool at_end)
+{
+    static const uint8_t operations[] = {6, 1, 5};
+    static const uint32_t counts[] = {8, 9, 511, 512, 513, 1023, 1024, 1025, 1535, 1536, 1537, 4000};
+    for (size_t i = 0; i < COUNT_OF(operations); i++)
+        for (uint32_t block = 0; block < 4; block++)
+            for (uint32_t blocks = 0; blocks < 5; blocks++)
+                for (size_t k = 0; k < COUNT_OF(counts); k++)
+                    if (!whole_transfer(r, operations[i], block, blocks, counts[k], at_end)) return false;
+    return true;
+}
+
+void test_bounds(uint64_t seed)
+{
+    struct random r = {seed + 1};
+    check("bounds", "random bytes against the rear guards", random_bytes(&r, true));
+    check("bounds", "random bytes against the front guards", random_bytes(&r, false));
+    check("bounds", "lengths just off, rear guards", lengths_just_off(&r, true));
+    check("bounds", "lengths just off, front guards", lengths_just_off(&r, false));
+    check("bounds", "whole storage as data area, rear guards", whole_areas(&r, true));
+    check("bounds", "whole storage as data area, front guards", whole_areas(&r, false));
+    check("bounds", "whole blocks, rear guards", whole_transfers(&r, true));
+    check("bounds", "whole blocks, front guards", whole_transfers(&r, false));
+    check("bounds", "NULL for every set of buffers", null_buffers());
+    check("bounds", "no storage, every command", null_storage());
+}

@@ -1,0 +1,167 @@
+// Causes 1 to 6 of the call, each on each side of its line; with them nothing at all may be written. And record set-up.
+#include "test.h"
+#include "words.h"
+
+#include <stdio.h>
+#include <string.h>
+
+#define STORE_MAX ((size_t)MAX_BLOCKS * BLOCK)
+#define STORAGE_OF 24u
+
+struct call {
+    const char *name;
+    size_t length[BUFFERS];
+    bool endless; // every command word has flag 40
+    uint32_t result;
+};
+
+// Chains are NO-OPERATIONs, the last without flag 40; so a good call with n words reaches n.
+static const struct call calls[] = {
+    {"1, chain of 0 bytes", {0, STORAGE_OF, 4096, 34, 64}, false, 0x100},
+    {"1, chain of 1 byte", {1, STORAGE_OF, 4096, 34, 64}, false, 0x100},
+    {"1, chain of 7 bytes", {7, STORAGE_OF, 4096, 34, 64}, false, 0x100},
+    {"1, chain of 8 bytes", {8, STORAGE_OF, 4096, 34, 64}, false, 1},
+    {"1, chain of 9 bytes", {9, STORAGE_OF, 4096, 34, 64}, false, 0x100},
+    {"1, chain of 12 bytes", {12, STORAGE_OF, 4096, 34, 64}, false, 0x100},
+    {"1, chain of 255 bytes", {255, STORAGE_OF, 4096, 34, 512}, false, 0x100},
+    {"1, chain of 256 bytes", {256, STORAGE_OF, 4096, 34, 256}, false, 32},
+    {"1, chain of 257 bytes", {257, STORAGE_OF, 4096, 34, 512}, false, 0x100},
+    {"1, chain of 264 bytes", {264, STORAGE_OF, 4096, 34, 512}, false, 0x100},
+    {"1, chain of 512 bytes", {512, STORAGE_OF, 4096, 34, 512}, false, 0x100},
+    {"2, store of 0 bytes", {8, STORAGE_OF, 0, 34, 8}, false, 0x200},
+    {"2, store of 1 byte", {8, STORAGE_OF, 1, 34, 8}, false, 0x200},
+    {"2, store of 511 bytes", {8, STORAGE_OF, 511, 34, 8}, false, 0x200},
+    {"2, store of 512 bytes", {8, STORAGE_OF, 512, 34, 8}, false, 1},
+    {"2, store of 513 bytes", {8, STORAGE_OF, 513, 34, 8}, false, 0x200},
+    {"2, store of 131,072 blocks less a byte", {8, STORAGE_OF, STORE_MAX - 1, 34, 8}, false, 0x200},
+    {"2, store of 131,072 blocks", {8, STORAGE_OF, STORE_MAX, 34, 8}, false, 1},
+    {"2, store of 131,072 blocks and a byte", {8, STORAGE_OF, STORE_MAX + 1, 34, 8}, false, 0x200},
+    {"2, store of 131,073 blocks", {8, STORAGE_OF, STORE_MAX + BLOCK, 34, 8}, false, 0x200},
+    {"3, no storage", {8, 0, 4096, 34, 8}, false, 1},
+    {"3, storage of 16,777,216 bytes", {8, MAX_STORAGE, 4096, 34, 8}, false, 1},
+    {"3, storage of 16,777,217 bytes", {8, MAX_STORAGE + 1, 4096, 34, 8}, false, 0x300},
+    {"4, no answers", {8, STORAGE_OF, 4096, 34, 0}, false, 0x400},
+    {"4, answers of 7 for 8", {8, STORAGE_OF, 4096, 34, 7}, false, 0x400},
+    {"4, answers of 8 for 8", {8, STORAGE_OF, 4096, 34, 8}, false, 1},
+    {"4, answers of 255 for 256", {256, STORAGE_OF, 4096, 34, 255}, false, 0x400},
+    {"4, answers of 257 for 256", {256, STORAGE_OF, 4096, 34, 257}, false, 32},
+    {"5, one word with flag 40", {8, STORAGE_OF, 4096, 34, 8}, true, 0x500},
+    {"5, 32 words with flag 40", {256, STORAGE_OF, 4096, 34, 256}, true, 0x500},
+    {"6, no record", {8, STORAGE_OF, 4096, 0, 8}, false, 0x600},
+    {"6, record of 33 bytes", {8, STORAGE_OF, 4096, 33, 8}, false, 0x600},
+    {"6, record of 34 bytes", {8, STORAGE_OF, 4096, 34, 8}, false, 1},
+    {"6, record of 35 bytes", {8, STORAGE_OF, 4096, 35, 8}, false, 0x600},
+};
+
+static void fill_chain(const struct buffers *b, bool endless)
+{
+    static const uint8_t word[8] = {0x03, 0, 0, 0, 0x40, 0, 0, 1};
+    size_t length = b->length[CHAIN];
+    for (size_t i = 0; i < length; i++) b->at[CHAIN][i] = word[i % 8];
+    if (!endless && length >= 8) b->at[CHAIN][(length - 1) / 8 * 8 + 4 < length ? (length - 1) / 8 * 8 + 4 : 4] = 0;
+}
+
+// Fills all but the chain so that a byte written anywhere shows; a ready unit with sense and counts.
+static void fill_rest(const struct buffers *b)
+{
+    if (b->length[STORAGE] > 0) memset(b->at[STORAGE], 0xD1, b->length[STORAGE]);
+    if (b->length[STORE] > 0) memset(b->at[STORE], 0xD2, b->length[STORE]);
+    if (b->length[RECORD] > 0) memset(b->at[RECORD], 0xD3, b->length[RECORD]);
+    if (b->length[ANSWERS] > 0) memset(b->at[ANSWERS], 0xD4, b->length[ANSWERS]);
+}
+
+// The answers of NO-OPERATIONs with a count of 1 are all that a good call writes.
+static void expect(const struct buffers *twin, uint32_t result)
+{
+    if (result >= 256) return;
+    for (uint32_t i = 0; i < result; i++) text_bytes(twin->at[ANSWERS] + 8 * i, 8, NOP_DONE);
+}
+
+static bool call_holds(const struct call *c, bool at_end)
+{
+    struct buffers library, twin;
+    buffers_place(&library, &twin, c->length, at_end);
+    fill_chain(&library, c->endless);
+    fill_rest(&library);
+    buffers_copy(&library, &twin);
+    expect(&twin, c->result);
+    uint32_t result = call_library(&library);
+    if (result != c->result) printf("  result %lX, not %lX\n", (unsigned long)result, (unsigned long)c->result);
+    return buffers_equal(&library, &twin) && result == c->result;
+}
+
+// 01: the order of the call's causes. Each of the 63 sets of broken rules gives the lowest of them. Rule 5 also holds
+// for a chain of 0 words and rule 4 is broken by no answers at all, so that every set can be built.
+static bool call_order(void)
+{
+    for (unsigned broken = 1; broken < 64; broken++) {
+        struct call c = {"order", {16, STORAGE_OF, 4096, 34, 16}, (broken & 16) != 0, 0};
+        if ((broken & 1) != 0) c.length[CHAIN] = 12;
+        if ((broken & 2) != 0) c.length[STORE] = 4095;
+        if ((broken & 4) != 0) c.length[STORAGE] = MAX_STORAGE + 1;
+        if ((broken & 8) != 0) c.length[ANSWERS] = 11;
+        if ((broken & 32) != 0) c.length[RECORD] = 33;
+        for (unsigned cause = 6; cause >= 1; cause--)
+            if ((broken >> (cause - 1) & 1) != 0) c.result = 256 * cause;
+        if (!call_holds(&c, true)) return printf("  broken rules %02X\n", broken), false;
+    }
+    return true;
+}
+
+// 5 looks at every word of the slice: one word without flag 40, wherever it is, is enough; the run ends there.
+static bool call_end(void)
+{
+    static const size_t length[BUFFERS] = {256, STORAGE_OF, 4096, 34, 256};
+    for (uint32_t end = 0; end < 32; end++) {
+        struct buffers library, twin;
+        buffers_place(&library, &twin, length, true);
+        fill_chain(&library, true);
+        library.at[CHAIN][8 * end + 4] = 0;
+        fill_rest(&library);
+        buffers_copy(&library, &twin);
+        expect(&twin, end + 1);
+        if (call_library(&library) != end + 1 || !buffers_equal(&library, &twin))
+            return printf("  end at word %lu\n", (unsigned long)end), false;
+    }
+    return true;
+}
+
+// Record set-up: sense and counts zero, the two bytes as given; another length gets 6 and nothing is written.
+static bool record_holds(size_t size, uint8_t ready, uint8_t read_only, bool at_end)
+{
+    struct buffers library, twin;
+    size_t length[BUFFERS] = {8, 0, 512, size, 8};
+    buffers_place(&library, &twin, length, at_end);
+    memset(library.at[RECORD], 0xD3, size);
+    buffers_copy(&library, &twin);
+    if (size == RECORD_SIZE) {
+        memset(twin.at[RECORD], 0, 32);
+        twin.at[RECORD][32] = ready;
+        twin.at[RECORD][33] = read_only;
+    }
+    uint32_t expected = size == RECORD_SIZE ? 0 : 0x600;
+    return call_library_record(library.at[RECORD], size, ready, read_only) == expected && buffers_equal(&library, &twin);
+}
+
+static bool record_values(void)
+{
+    for (unsigned i = 0; i < 65536; i += 251)
+        if (!record_holds(RECORD_SIZE, (uint8_t)(i >> 8), (uint8_t)i, i % 2 == 0)) return false;
+    return record_holds(RECORD_SIZE, 0xFF, 0xFF, true) && record_holds(RECORD_SIZE, 1, 0, false);
+}
+
+static bool record_lengths(void)
+{
+    for (size_t size = 0; size < 300; size++)
+        if (size != RECORD_SIZE && !(record_holds(size, 1, 0, true) && record_holds(size, 0, 1, false))) return false;
+    return call_library_record(NULL, 0, 1, 0) == 0x600;
+}
+
+void test_calls(void)
+{
+    for (size_t i = 0; i < COUNT_OF(calls); i++) check("calls", calls[i].name, call_holds(&calls[i], true) && call_holds(&calls[i], false));
+    check("calls", "the order of causes 1 to 6", call_order());
+    check("calls", "5, the end at each word", call_end());
+    check("calls", "record set-up, values", record_values());
+    check("calls", "record set-up, lengths", record_lengths());
+}

@@ -1,0 +1,94 @@
+// Runs a line that was written by hand: builds its input, and compares all that it leaves with all that it should.
+#include "test.h"
+
+#include <ctype.h>
+#include <stdio.h>
+#include <stdlib.h>
+#include <string.h>
+
+#define FRESH 0xEE   // what the answers hold before
+#define BEYOND 11u   // answers lent beyond the chain's length
+
+static const char ready_record[] = "32*00 01 00";
+
+static uint8_t digit(char c) { return (uint8_t)(c <= '9' ? c - '0' : c - 'A' + 10); }
+
+size_t text_bytes(uint8_t *to, size_t room, const char *text)
+{
+    size_t n = 0;
+    while (*text != '\0') {
+        if (*text == ' ') {
+            text++;
+            continue;
+        }
+        size_t digits = strspn(text, "0123456789"), times = 1;
+        if (text[digits] == '*') {
+            times = strtoul(text, NULL, 10);
+            text += digits + 1;
+        }
+        if (!isxdigit((unsigned char)text[0]) || !isxdigit((unsigned char)text[1]) || n + times > room) {
+            fprintf(stderr, "bad text: %s\n", text);
+            exit(2);
+        }
+        if (to != NULL) memset(to + n, digit(text[0]) << 4 | digit(text[1]), times);
+        n += times;
+        text += 2;
+    }
+    return n;
+}
+
+static void apply(uint8_t *to, size_t length, const struct change *changes, size_t count)
+{
+    for (size_t i = 0; i < count; i++)
+        if (changes[i].bytes != NULL) text_bytes(to + changes[i].at, length - changes[i].at, changes[i].bytes);
+}
+
+static void build_before(const struct line *line, const struct buffers *b)
+{
+    text_bytes(b->at[CHAIN], b->length[CHAIN], line->chain);
+    text_bytes(b->at[STORAGE], b->length[STORAGE], line->storage);
+    for (size_t i = 0; i < b->length[STORE]; i++) b->at[STORE][i] = (uint8_t)(i / BLOCK);
+    apply(b->at[STORE], b->length[STORE], line->store_before, 1);
+    text_bytes(b->at[RECORD], RECORD_SIZE, line->record != NULL ? line->record : ready_record);
+    memset(b->at[ANSWERS], FRESH, b->length[ANSWERS]);
+}
+
+// Turns the copy of what was there before into what should be there after.
+static void build_after(const struct line *line, const struct buffers *b)
+{
+    apply(b->at[STORAGE], b->length[STORAGE], line->storage_after, 3);
+    apply(b->at[STORE], b->length[STORE], line->store_after, 2);
+    text_bytes(b->at[ANSWERS], b->length[ANSWERS], line->answers);
+    memset(b->at[RECORD], 0, 32);
+    if (line->sense != NULL) text_bytes(b->at[RECORD], 24, line->sense);
+    if (line->log != NULL) text_bytes(b->at[RECORD] + 24, 8, line->log);
+}
+
+static bool line_holds_at(const struct line *line, bool at_end)
+{
+    struct buffers library, twin;
+    size_t length[BUFFERS];
+    length[CHAIN] = text_bytes(NULL, MAX_CHAIN, line->chain);
+    length[STORAGE] = text_bytes(NULL, MAX_STORAGE, line->storage);
+    length[STORE] = (size_t)BLOCK * (line->blocks != 0 ? line->blocks : 8);
+    length[RECORD] = RECORD_SIZE;
+    length[ANSWERS] = length[CHAIN] + BEYOND;
+    buffers_place(&library, &twin, length, at_end);
+    build_before(line, &library);
+    buffers_copy(&library, &twin);
+    build_after(line, &twin);
+    uint32_t expected = (uint32_t)(text_bytes(NULL, MAX_CHAIN, line->answers) / 8), result = call_library(&library);
+    if (result != expected) printf("  result %lu, not %lu\n", (unsigned long)result, (unsigned long)expected);
+    return buffers_equal(&library, &twin) && result == expected;
+}
+
+bool line_holds(const struct line *line) { return line_holds_at(line, true) && line_holds_at(line, false); }
+
+void check_lines(const char *part, const struct line *lines, size_t count)
+{
+    for (size_t i = 0; i < count; i++) {
+        bool holds = line_holds(&lines[i]);
+        if (!holds) printf("  why: %s\n", lines[i].why);
+        check(part, lines[i].name, holds);
+    }
+}

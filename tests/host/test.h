@@ -1,0 +1,89 @@
+// What the parts of the host test share.
+#ifndef TEST_H
+#define TEST_H
+
+#include <stdbool.h>
+#include <stddef.h>
+#include <stdint.h>
+
+#define BLOCK 512u
+#define MAX_CHAIN 256u
+#define MAX_BLOCKS 131072u
+#define MAX_STORAGE 16777216u
+#define RECORD_SIZE 34u
+
+// ---- Checks (host_test.c). A failed check prints its part and name.
+void check(const char *part, const char *name, bool passed);
+
+// ---- Buffers (buffers.c). Each of the five has an area between two pages that fault when touched, and the
+// area has a twin for the second program (or for a copy of what was there before).
+enum { CHAIN, STORAGE, STORE, RECORD, ANSWERS, BUFFERS };
+extern const char *const buffer_names[BUFFERS];
+
+struct buffers {
+    uint8_t *at[BUFFERS];
+    size_t length[BUFFERS];
+};
+
+void buffers_open(void);
+
+// Places the five buffers against the rear guards (at_end) or the front ones. Of length 0 they are not NULL.
+void buffers_place(struct buffers *library, struct buffers *twin, const size_t length[BUFFERS], bool at_end);
+
+// Copies the library's buffers, and the bytes around them, to the twin.
+void buffers_copy(const struct buffers *library, const struct buffers *twin);
+
+// Whether the buffers, and the bytes around them, are equal; prints the first byte that differs.
+bool buffers_equal(const struct buffers *library, const struct buffers *twin);
+
+// ---- Calls. A call of the library that faults returns FAULT.
+#define FAULT UINT32_MAX
+uint32_t call_library(const struct buffers *b);
+uint32_t call_second(const struct buffers *b);
+uint32_t call_library_record(uint8_t *record, size_t length, uint8_t ready, uint8_t read_only);
+void print_input(const struct buffers *b, const uint8_t record_before[RECORD_SIZE]);
+
+// ---- Lines by hand (line.c). Bytes are text: hexadecimal, spaces anywhere between bytes, N*XX for a repeated byte.
+struct change {
+    size_t at;
+    const char *bytes;
+};
+
+struct line {
+    const char *name, *why;
+    uint32_t blocks;                 // 0 stands for 8; block i is filled with byte i
+    const char *record;              // before; NULL: sense and counts zero, ready, not read-only
+    const char *storage;             // before
+    struct change store_before[1];   // over the fill
+    const char *chain;
+    const char *answers;             // of the commands reached, which gives the result; the rest stays
+    const char *sense;               // after, zeros follow; NULL: all zero
+    const char *log;                 // the eight bytes of counts after; NULL: all zero
+    struct change storage_after[3], store_after[2]; // all else stays
+};
+
+size_t text_bytes(uint8_t *to, size_t room, const char *text); // to may be NULL: the length alone
+bool line_holds(const struct line *line);
+void check_lines(const char *part, const struct line *lines, size_t count);
+
+// ---- Random numbers, the same on every machine, and inputs made of them (generate.c).
+struct random {
+    uint64_t state;
+};
+uint64_t random_next(struct random *r);
+uint32_t random_below(struct random *r, uint32_t limit);
+void random_fill(struct random *r, uint8_t *to, size_t length);
+
+// Makes one input in both places. A large one (1, 2, .. by turns; 0 is a small one) takes its storage and store from
+// what lies in the areas, which is equal on both sides, and changes little of it.
+void generate(struct random *r, struct buffers *library, struct buffers *twin, uint32_t large);
+void generate_large_contents(struct random *r);
+
+// ---- The parts.
+void test_lines(void);
+void test_causes(void);
+void test_calls(void);
+void test_random(uint32_t chains, uint64_t seed);
+void test_bounds(uint64_t seed);
+
+#endif
