@@ -1,13 +1,12 @@
 -- `digits::decode` meets its contract. The invariant: the bytes of the text are those written, and those of what is left of it. The measure: the bytes left.
 -- Assumes nothing.
-use Rattle.digits.proofs.Numbers.{decoded-all}
 use Prim.Native.Nat.{ℕ, _≤_, _+_, _-_, _*_}
 use native.Mathlib.Omega.{arith}
 use mathlib.Core.Path.{_≡_}
 use mathlib.Core.List.{_++_}
 use lib.ListN.{length, take, drop}
 use Rattle.digits.specs.Digits.{bytesIn}
-use Rattle.digits.proofs.Numbers.{decoded}
+use Rattle.digits.proofs.Numbers.{decoded, decoded-all}
 use borrow.Author.Needs.{needs}
 use Rattle.digits.proofs.decode.Statement.{statement}
 use Rattle.digits.proofs.decode.Tie as tie
@@ -20,6 +19,9 @@ Inv-loop text to₀ i₀ i-end to i = (i ≤ i-end) × (i-end ≡ length to₀) 
 
 abbrev μ-loop : tie.MeasureT-loop
 μ-loop text to₀ i₀ i-end to i = i-end - i
+
+loop-holds : tie.Need-loop-holds Inv-loop μ-loop
+loop-holds c = search needs
 
 loop-again : tie.Need-loop-again Inv-loop μ-loop
 loop-again c =
@@ -38,7 +40,7 @@ decode-spec =
     (tie.spec
     Inv-loop
     μ-loop
-    (search needs)  -- loop-holds
+    loop-holds
     (search needs)  -- mul-value-of
     (search needs)  -- shared-slice-read-value-of
     (search needs)  -- value-of-requires
