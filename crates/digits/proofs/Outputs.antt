@@ -90,3 +90,8 @@ module _ (out x y : List ℕ) (at r s : ℕ) (a b : List ℕ) where
         ]
         | no h ↦ more-cut (omega (arith, h)) e f g k
       ]
+
+-- a text, and two more
+pub added-three : (out x y z : List ℕ) (at r s t : ℕ) (a b d : List ℕ) → record { next = r; bytes = x } ≡ added out at a → record { next = s; bytes = y } ≡ added x r b
+    → record { next = t; bytes = z } ≡ added y s d → record { next = t; bytes = z } ≡ added out at (a ++ b ++ d)
+added-three out x y z at r s t a b d p q o = added-more out y z at s t (a ++ b) d (added-more out x y at r s a b p q) o
