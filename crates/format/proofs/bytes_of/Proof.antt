@@ -7,35 +7,7 @@ use Rattle.moves.specs.Parts.{part}
 use borrow.Author.Needs.{needs}
 use Rattle.format.proofs.bytes_of.Statement.{statement}
 use Rattle.format.proofs.bytes_of.Tie as tie
-use Rattle.format.proofs.bytes_of.Reads as reads
-use Rattle.format.proofs.bytes_of.Lts as lts
-use Rattle.digits.proofs.decode.Reads as decode-reads
 
--- src/lib.rt:184:15
-sub-end : tie.Need-sub-end
-sub-end c = search needs
-
--- src/lib.rt:185:12
-sub-decode : tie.Need-sub-decode
-sub-decode c = search needs
-
--- src/lib.rt:185:12
-part-decode-start : tie.Need-part-decode-start
-part-decode-start c = search needs
-
--- src/lib.rt:185:12
-part-decode-end : tie.Need-part-decode-end
-part-decode-end c = search needs
-
--- src/lib.rt:185:5
-decode-requires : tie.Need-decode-requires
-decode-requires c κs = search needs
-
--- src/lib.rt:180:1
-same-length : tie.Need-same-length
-same-length c = search needs
-
--- src/lib.rt:180:1
 returns : tie.Need-returns
 unfolding part
 returns c =
@@ -47,10 +19,10 @@ pub bytes-of-spec : {M : Type 1} → statement M
 bytes-of-spec =
     tie.close
     (tie.spec
-    sub-end
-    sub-decode
-    part-decode-start
-    part-decode-end
-    decode-requires
-    same-length
+    (search needs)  -- sub-end
+    (search needs)  -- sub-decode
+    (search needs)  -- part-decode-start
+    (search needs)  -- part-decode-end
+    (search needs)  -- decode-requires
+    (search needs)  -- same-length
     returns)

@@ -1,23 +1,17 @@
 -- `format::chain_in` meets its contract. The invariant: the lines from `at` on are right, and the chain is what stands in `to`, then what they say. The measure: the bytes left.
 -- Assumes nothing.
-use Prim.Native.Nat.{ℕ, _+_, _≤_, _-_, _*_}
-use native.Mathlib.Nat.{zero-mul}
+use Prim.Native.Nat.{_+_, _≤_, _-_, _*_}
 use native.Mathlib.Omega.{arith}
-use mathlib.Core.Path.{_≡_, _∙_, sym, refl, ap}
-use mathlib.Core.List.{List, _++_, append-nil}
+use mathlib.Core.Path.{_≡_, _∙_, sym}
+use mathlib.Core.List.{_++_, append-nil}
 use lib.ListN.{length, take, drop}
 use borrow.Rule.Slice.PartMut.{midOf, mid-len}
 use Rattle.moves.proofs.Laws.{rest-lent, part-lent, length-part}
-use Rattle.format.specs.Format.{Exercise, lines, wrongFrom, chainIn, exerciseIn}
+use Rattle.format.specs.Format.{lines, wrongFrom, chainIn, exerciseIn}
 use Rattle.format.proofs.Rights.{right-from, chain-start, ccw-is, chain-more, chain-done}
 use borrow.Author.Needs.{needs}
 use Rattle.format.proofs.chain_in.Statement.{statement}
 use Rattle.format.proofs.chain_in.Tie as tie
-use Rattle.format.proofs.chain_in.Reads as reads
-use Rattle.format.proofs.chain_in.Lts as lts
-use Rattle.format.proofs.bytes_of.Reads as bytes-of-reads
-use Rattle.format.proofs.line_length.Reads as line-length-reads
-use Rattle.format.proofs.line_start.Reads as line-start-reads
 
 abbrev Inv-loop : tie.InvT-loop
 Inv-loop input to₀ at₀ n₀ to at n = (at ≤ length input) × (wrongFrom (5 + n) (lines (drop at input)) ≡ 0) × (length to ≡ length to₀) × (length to₀ ≡ 256) × (n ≤ 32) × (exerciseIn (lines input) .chain ≡ take (n * 8) to ++ chainIn (lines (drop at input)))
@@ -25,65 +19,11 @@ Inv-loop input to₀ at₀ n₀ to at n = (at ≤ length input) × (wrongFrom (5
 abbrev μ-loop : tie.MeasureT-loop
 μ-loop input to₀ at₀ n₀ to at n = length input - at
 
--- src/lib.rt:206:9
-line-start-requires : tie.Need-line-start-requires Inv-loop μ-loop
-line-start-requires c κs = search needs
-
--- src/lib.rt:208:5
 loop-holds : tie.Need-loop-holds Inv-loop μ-loop
 loop-holds c =
     let a = c .before .before .before .args in
     (c .line-start .ensures .1, right-from (a .input .now) 4 (c .line-start .result) (omega arith) (c .before .before .before .pre .0) (c .line-start .ensures .0), search needs, c .before .before .before .pre .1, omega arith, chain-start (a .input .now) (a .to .now) (c .line-start .result) (c .line-start .ensures .0))
 
--- src/lib.rt:209:36
-sub-line-length : tie.Need-sub-line-length Inv-loop μ-loop
-sub-line-length c = search needs
-
--- src/lib.rt:209:36
-part-line-length-start : tie.Need-part-line-length-start Inv-loop μ-loop
-part-line-length-start c = search needs
-
--- src/lib.rt:209:36
-part-line-length-end : tie.Need-part-line-length-end Inv-loop μ-loop
-part-line-length-end c = search needs
-
--- src/lib.rt:209:24
-line-length-requires : tie.Need-line-length-requires Inv-loop μ-loop
-line-length-requires c κs = search needs
-
--- src/lib.rt:209:19
-add-end : tie.Need-add-end Inv-loop μ-loop
-add-end c = search needs
-
--- src/lib.rt:210:20
-mul-from : tie.Need-mul-from Inv-loop μ-loop
-mul-from c = search needs
-
--- src/lib.rt:211:20
-add-upto : tie.Need-add-upto Inv-loop μ-loop
-add-upto c = search needs
-
--- src/lib.rt:212:18
-sub-bytes-of : tie.Need-sub-bytes-of Inv-loop μ-loop
-sub-bytes-of c = search needs
-
--- src/lib.rt:212:18
-part-bytes-of-start : tie.Need-part-bytes-of-start Inv-loop μ-loop
-part-bytes-of-start c = search needs
-
--- src/lib.rt:212:18
-part-bytes-of-end : tie.Need-part-bytes-of-end Inv-loop μ-loop
-part-bytes-of-end c = search needs
-
--- src/lib.rt:212:38
-sub-bytes-of-2 : tie.Need-sub-bytes-of-2 Inv-loop μ-loop
-sub-bytes-of-2 c = search needs
-
--- src/lib.rt:212:38
-part-bytes-of-start-2 : tie.Need-part-bytes-of-start-2 Inv-loop μ-loop
-part-bytes-of-start-2 c = search needs
-
--- src/lib.rt:212:38
 part-bytes-of-end-2 : tie.Need-part-bytes-of-end-2 Inv-loop μ-loop
 part-bytes-of-end-2 c =
     let l = c .before .before .before .before .loop in
@@ -92,7 +32,6 @@ part-bytes-of-end-2 c =
     let s = ccw-is (a .input .now) (l .at) (l .n) _ (l .inv .1) (search needs) k in
     omega (arith, s .1, l .inv)
 
--- src/lib.rt:212:9
 bytes-of-requires : tie.Need-bytes-of-requires Inv-loop μ-loop
 bytes-of-requires c κs =
     let l = c .before .before .before .before .before .loop in
@@ -103,11 +42,6 @@ bytes-of-requires c κs =
     let eight : length (midOf (l .n * 8) (l .n * 8 + 8 - l .n * 8) (l .to)) ≡ 8 = mid-len (l .n * 8) (l .n * 8 + 8) (l .to) (omega (arith, s .1, l .inv)) ∙ omega arith in
     rw (part-lent, line, eight) (s .0)
 
--- src/lib.rt:214:9
-add-n : tie.Need-add-n Inv-loop μ-loop
-add-n c = search needs
-
--- src/lib.rt:208:5
 loop-less : tie.Need-loop-less Inv-loop μ-loop
 loop-less c =
     let l = c .before .before .before .before .before .before .before .before .loop in
@@ -116,7 +50,6 @@ loop-less c =
     let s = ccw-is (a .input .now) (l .at) (l .n) _ (l .inv .1) (search needs) k in
     omega (arith, s .0, s .2)
 
--- src/lib.rt:208:5
 loop-again : tie.Need-loop-again Inv-loop μ-loop
 loop-again c =
     let l = c .before .before .before .before .before .before .before .before .loop in
@@ -128,15 +61,6 @@ loop-again c =
     let kept = c .before .before .bytes-of .kept .1 .1 .0 in
     (s .2, s .3, search needs, search needs, omega (arith, s .1), rw next (chain-more (a .input .now) (l .to) _ (l .at) (l .n * 8) _ _ (l .inv .5) (search needs) k (rw part-lent at (c .before .before .bytes-of .ensures)) kept (kept ∙ eight) (omega (arith, s .1, l .inv))))
 
--- src/lib.rt:216:5
-mul-result : tie.Need-mul-result Inv-loop μ-loop
-mul-result c = search needs
-
--- src/lib.rt:202:1
-same-length : tie.Need-same-length Inv-loop μ-loop
-same-length c = search needs
-
--- src/lib.rt:202:1
 returns : tie.Need-returns Inv-loop μ-loop
 returns c =
     let l = c .before .loop in
@@ -148,25 +72,25 @@ chain-in-spec =
     (tie.spec
     Inv-loop
     μ-loop
-    line-start-requires
+    (search needs)  -- line-start-requires
     loop-holds
-    sub-line-length
-    part-line-length-start
-    part-line-length-end
-    line-length-requires
-    add-end
-    mul-from
-    add-upto
-    sub-bytes-of
-    part-bytes-of-start
-    part-bytes-of-end
-    sub-bytes-of-2
-    part-bytes-of-start-2
+    (search needs)  -- sub-line-length
+    (search needs)  -- part-line-length-start
+    (search needs)  -- part-line-length-end
+    (search needs)  -- line-length-requires
+    (search needs)  -- add-end
+    (search needs)  -- mul-from
+    (search needs)  -- add-upto
+    (search needs)  -- sub-bytes-of
+    (search needs)  -- part-bytes-of-start
+    (search needs)  -- part-bytes-of-end
+    (search needs)  -- sub-bytes-of-2
+    (search needs)  -- part-bytes-of-start-2
     part-bytes-of-end-2
     bytes-of-requires
-    add-n
+    (search needs)  -- add-n
     loop-less
     loop-again
-    mul-result
-    same-length
+    (search needs)  -- mul-result
+    (search needs)  -- same-length
     returns)

@@ -1,16 +1,12 @@
 -- `format::number_in` meets its contract. The invariant: the number is none of those before n, so it is the first of those from n on. The measure: those left.
 -- Assumes nothing.
 use Prim.Native.Nat.{_+_, _≤_, _<_, _-_}
-use native.Mathlib.Omega.{arith}
 use mathlib.Core.Path.{_≡_, _∙_, sym}
 use Rattle.format.specs.Format.{numberIn}
 use Rattle.format.proofs.Values.{number-found, number-next, number-none}
 use borrow.Author.Needs.{needs}
 use Rattle.format.proofs.number_in.Statement.{statement}
 use Rattle.format.proofs.number_in.Tie as tie
-use Rattle.format.proofs.number_in.Reads as reads
-use Rattle.format.proofs.number_in.Lts as lts
-use Rattle.digits.proofs.is_decimal.Reads as is-decimal-reads
 
 abbrev Inv-loop : tie.InvT-loop
 Inv-loop text least most n₀ n = (n ≤ most + 1) × (most < 100000) × (numberIn (most + 1 - least) least text ≡ numberIn (most + 1 - n) n text)
@@ -18,35 +14,16 @@ Inv-loop text least most n₀ n = (n ≤ most + 1) × (most < 100000) × (number
 abbrev μ-loop : tie.MeasureT-loop
 μ-loop text least most n₀ n = most + 1 - n
 
--- src/lib.rt:57:5
-loop-holds : tie.Need-loop-holds Inv-loop μ-loop
-loop-holds c = search needs
-
--- src/lib.rt:58:12
-is-decimal-requires : tie.Need-is-decimal-requires Inv-loop μ-loop
-is-decimal-requires c κs = search needs
-
--- src/lib.rt:59:13
 returns : tie.Need-returns Inv-loop μ-loop
 returns c =
     let l = c .before .before .before .loop in
     number-found (c .before .before .before .before .before .args .text .now) (l .n) (c .before .before .before .before .before .args .most) _ (l .inv .2) (search needs) (sym (c .before .is-decimal .ensures) ∙ c .if1 .taken)
 
--- src/lib.rt:61:9
-add-n : tie.Need-add-n Inv-loop μ-loop
-add-n c = search needs
-
--- src/lib.rt:57:5
-loop-less : tie.Need-loop-less Inv-loop μ-loop
-loop-less c = search needs
-
--- src/lib.rt:57:5
 loop-again : tie.Need-loop-again Inv-loop μ-loop
 loop-again c =
     let l = c .before .before .before .loop in
     (search needs, search needs, number-next (c .before .before .before .before .before .args .text .now) (l .n) (c .before .before .before .before .before .args .most) _ (l .inv .2) (search needs) (sym (c .before .is-decimal .ensures) ∙ c .if1 .left))
 
--- src/lib.rt:52:1
 returns-2 : tie.Need-returns-2 Inv-loop μ-loop
 returns-2 c =
     let l = c .before .loop in
@@ -58,10 +35,10 @@ number-in-spec =
     (tie.spec
     Inv-loop
     μ-loop
-    loop-holds
-    is-decimal-requires
+    (search needs)  -- loop-holds
+    (search needs)  -- is-decimal-requires
     returns
-    add-n
-    loop-less
+    (search needs)  -- add-n
+    (search needs)  -- loop-less
     loop-again
     returns-2)

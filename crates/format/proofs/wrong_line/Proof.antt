@@ -12,10 +12,6 @@ use Rattle.format.proofs.Lines.{line-inside, wrong-at-end, wrong-here, 
 use borrow.Author.Needs.{needs}
 use Rattle.format.proofs.wrong_line.Statement.{statement}
 use Rattle.format.proofs.wrong_line.Tie as tie
-use Rattle.format.proofs.wrong_line.Reads as reads
-use Rattle.format.proofs.wrong_line.Lts as lts
-use Rattle.format.proofs.line_length.Reads as line-length-reads
-use Rattle.format.proofs.right_line.Reads as right-line-reads
 
 abbrev Inv-loop : tie.InvT-loop
 Inv-loop input at₀ n₀ at n = (at ≤ length input) × (n ≤ at + 1) × (wrongLine input ≡ wrongFrom n (lines (drop at input)))
@@ -23,63 +19,26 @@ Inv-loop input at₀ n₀ at n = (at ≤ length input) × (n ≤ at + 1) × (wro
 abbrev μ-loop : tie.MeasureT-loop
 μ-loop input at₀ n₀ at n = length input - at
 
--- src/lib.rt:127:5
 loop-holds : tie.Need-loop-holds Inv-loop μ-loop
 unfolding wrongLine
 loop-holds c = (search needs, search needs, refl)
 
--- src/lib.rt:128:36
-sub-line-length : tie.Need-sub-line-length Inv-loop μ-loop
-sub-line-length c = search needs
-
--- src/lib.rt:128:36
-part-line-length-start : tie.Need-part-line-length-start Inv-loop μ-loop
-part-line-length-start c = search needs
-
--- src/lib.rt:128:36
-part-line-length-end : tie.Need-part-line-length-end Inv-loop μ-loop
-part-line-length-end c = search needs
-
--- src/lib.rt:128:24
-line-length-requires : tie.Need-line-length-requires Inv-loop μ-loop
-line-length-requires c κs = search needs
-
--- src/lib.rt:128:19
 add-end : tie.Need-add-end Inv-loop μ-loop
 add-end c =
     let h = rest-length (c .before .before .before .before .before .args .input .now) (c .before .before .before .loop .at) _ (c .line-length .ensures .1) (c .before .before .before .loop .inv .0) in
     search (needs, h)
 
--- src/lib.rt:129:27
-sub-right-line : tie.Need-sub-right-line Inv-loop μ-loop
-sub-right-line c = search needs
-
--- src/lib.rt:129:27
-part-right-line-start : tie.Need-part-right-line-start Inv-loop μ-loop
-part-right-line-start c = search needs
-
--- src/lib.rt:129:27
 part-right-line-end : tie.Need-part-right-line-end Inv-loop μ-loop
 part-right-line-end c =
     let h = rest-length (c .before .before .before .before .before .args .input .now) (c .before .before .before .loop .at) _ (c .line-length .ensures .1) (c .before .before .before .loop .inv .0) in
     search (needs, h)
 
--- src/lib.rt:129:13
-right-line-requires : tie.Need-right-line-requires Inv-loop μ-loop
-right-line-requires c κs = search needs
-
--- src/lib.rt:130:13
 returns : tie.Need-returns Inv-loop μ-loop
 returns c =
     let l = c .before .before .before .before .before .before .loop in
     let k = rw (rest-lent (c .before .before .before .before .before .before .before .before .args .input .now) (l .at)) at (c .before .before .before .line-length .ensures .0) in
     wrong-here (c .before .before .before .before .before .before .before .before .args .input .now) (l .at) (l .n) _ _ _ (l .inv .2) (search needs) k (rw part-lent at (c .before .right-line .ensures)) (not-true _ (c .if1 .taken))
 
--- src/lib.rt:133:9
-add-n : tie.Need-add-n Inv-loop μ-loop
-add-n c = search needs
-
--- src/lib.rt:127:5
 loop-less : tie.Need-loop-less Inv-loop μ-loop
 loop-less c =
     let l = c .before .before .before .before .before .before .loop in
@@ -87,7 +46,6 @@ loop-less c =
     let i = line-inside (c .before .before .before .before .before .before .before .before .args .input .now) (l .at) _ k (search needs) in
     omega (arith, i)
 
--- src/lib.rt:127:5
 loop-again : tie.Need-loop-again Inv-loop μ-loop
 loop-again c =
     let l = c .before .before .before .before .before .before .loop in
@@ -95,14 +53,12 @@ loop-again c =
     let i = line-inside (c .before .before .before .before .before .before .before .before .args .input .now) (l .at) _ k (search needs) in
     (omega (arith, i), omega (arith, i), right-here (c .before .before .before .before .before .before .before .before .args .input .now) (l .at) (l .n) _ _ _ (l .inv .2) (search needs) k (rw part-lent at (c .before .right-line .ensures)) (not-false _ (c .if1 .left)))
 
--- src/lib.rt:122:1
 returns-2 : tie.Need-returns-2 Inv-loop μ-loop
 unfolding pick
 returns-2 c =
     let l = c .before .before .loop in
     sym (wrong-at-end (c .before .before .before .before .args .input .now) (l .at) (l .n) _ (l .inv .2) (search needs) ∙ simp (lt-ltb _ _ (c .if2 .taken)))
 
--- src/lib.rt:122:1
 returns-3 : tie.Need-returns-3 Inv-loop μ-loop
 unfolding pick
 returns-3 c =
@@ -116,17 +72,17 @@ wrong-line-spec =
     Inv-loop
     μ-loop
     loop-holds
-    sub-line-length
-    part-line-length-start
-    part-line-length-end
-    line-length-requires
+    (search needs)  -- sub-line-length
+    (search needs)  -- part-line-length-start
+    (search needs)  -- part-line-length-end
+    (search needs)  -- line-length-requires
     add-end
-    sub-right-line
-    part-right-line-start
+    (search needs)  -- sub-right-line
+    (search needs)  -- part-right-line-start
     part-right-line-end
-    right-line-requires
+    (search needs)  -- right-line-requires
     returns
-    add-n
+    (search needs)  -- add-n
     loop-less
     loop-again
     returns-2
