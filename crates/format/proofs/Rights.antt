@@ -10,14 +10,14 @@ use mathlib.Core.List.{List, [], _∷_, _++_, append-assoc}
 use lib.Dec.{eqb, ltb}
 use lib.ListN.{length, getD, take, drop, length-drop, drop-of-length-le}
 use lib.Seq.{drop-drop, take-at}
-use borrow.Author.Tests.{eqb-true, ltb-false, le-ltb, ne-eqb, not-false, not-true}
+use borrow.Author.Tests.{eqb-true, ltb-true, ltb-false, le-ltb, ne-eqb, not-false, not-true}
 use borrow.Rule.Slice.PartMut.{midOf, putMid}
 use Rattle.moves.specs.Parts.{part, put}
 use Rattle.moves.proofs.Laws.{length-part, put-lent-whole, take-put}
 use Rattle.model.specs.Rules.{pick}
 use Rattle.digits.specs.Digits.{isHex, bytesIn}
 use Rattle.digits.proofs.Numbers.{and-true}
-use Rattle.format.specs.Format.{Field, lines, storage, ccw, value, keyed, bytesOf, hexLine, rightLine, wrongFrom, wrongLine, chainIn, exerciseIn}
+use Rattle.format.specs.Format.{Field, lines, blocks, numberOf, storage, ccw, value, keyed, bytesOf, hexLine, rightLine, wrongFrom, wrongLine, chainIn, exerciseIn}
 use Rattle.format.specs.Lengths.{lineLength}
 use Rattle.format.proofs.Lines.{no-lines, line-at, lines-at, line-inside}
 use Rattle.format.proofs.Values.{length-value, keyed-long}
@@ -141,3 +141,15 @@ chain-start input to at e = ap chainIn e
 pub storage-taken : (to back line all : List ℕ) (n : ℕ) → back ≡ bytesIn (part line 8 (length line - (8 + 1))) → bytesOf storage line ≡ all → length back ≡ n → take n (back ++ drop n to) ≡ all
 unfolding bytesOf value
 storage-taken to back line all n e f h = take-at back (drop n to) n h ∙ e ∙ f
+
+-- the device of a right input is no larger than it may be
+blocks-in : (ls : List (List ℕ)) → wrongFrom 1 ls ≡ 0 → exerciseIn ls .settings .blocks ≤ 64
+unfolding exerciseIn rightLine pick
+blocks-in [] e = absurd (missing 1 (omega arith) (omega arith) e)
+blocks-in (l ∷ ls) e =
+    let few : numberOf blocks l < 65 = ltb-true _ _ (all-right 1 l ls (omega arith) e .0) in
+    omega arith
+
+pub few-blocks : (input : List ℕ) → wrongLine input ≡ 0 → exerciseIn (lines input) .settings .blocks ≤ 64
+unfolding wrongLine
+few-blocks input e = blocks-in (lines input) e

@@ -1,0 +1,47 @@
+-- What a run gave is what is printed. No contract cites this file.
+use Prim.Native.Nat.{ℕ, _+_, _*_, _/_, _%_, _≤_, _<_}
+use native.Mathlib.Omega.{arith}
+use mathlib.Core.Path.{_≡_, refl, sym, ap, _∙_}
+use mathlib.Core.List.{List}
+use lib.ListN.{length}
+use Rattle.model.specs.declared.record.Record.{Record}
+use Rattle.model.specs.Chain.{Called, call}
+use Rattle.model.specs.Host.{resultOf}
+use Rattle.model.proofs.Endings.{call-reached}
+use Rattle.model.proofs.Hosts.{result-reads}
+use Rattle.moves.specs.Parts.{zeros}
+use Rattle.model.specs.Lent.{newRecord}
+use Rattle.format.specs.declared.Settings.{Settings}
+use Rattle.text.specs.Exercise.{device, performed}
+use Rattle.lent.specs.declared.Ran.{Ran}
+use Rattle.lent.specs.Run.{Outcome, given, outcome, After}
+use Rattle.lent.proofs.Reached.{reached-few}
+use Rattle.printout.specs.Printout.{printoutOf, printout}
+
+module _ (u : Record) (chain main store answers : List ℕ) (w : Ran) (main′ store′ answers′ : List ℕ) (a : After u chain main store answers w main′ store′ answers′) where
+  code-is : w .code ≡ resultOf (call chain main store u answers .cause) (call chain main store u answers .reached)
+  unfolding outcome
+  code-is = ap (λ (o : Outcome). o .code) (a .is)
+
+  few : call chain main store u answers .reached < 256
+  few = omega (arith, reached-few chain main store u answers (call chain main store u answers) refl)
+
+  cause-is : w .code / 256 ≡ call chain main store u answers .cause
+  cause-is = rw code-is (result-reads _ _ few .0)
+
+  reached-is : w .code % 256 ≡ call chain main store u answers .reached
+  reached-is = rw code-is (result-reads _ _ few .1)
+
+  pub told : printoutOf (w .code / 256) (w .code % 256) answers′ main′ (w .unit .sense) ≡ printout (call chain main store u answers)
+  unfolding outcome
+  told = λ i. printoutOf (cause-is i) (reached-is i) (a .is i .answers) (a .is i .storage) (a .is i .unit .sense)
+
+  -- there is an answer for each command reached
+  pub answered : length answers′ ≡ length chain → w .code % 256 * 8 ≤ length answers′
+  answered e = rw (reached-is, e) (omega (arith, call-reached 512 chain main store u answers .1))
+
+-- a call on a device as the settings have it is what the exercise asks for
+pub performed-is : (s t : Settings) (chain main store : List ℕ) (u : Record) → s ≡ t → store ≡ device (s .blocks) → u ≡ newRecord (s .ready) (s .readonly)
+    → printout (call chain main store u (zeros (length chain))) ≡ printout (performed (record { settings = t; storage = main; chain = chain }))
+unfolding performed
+performed-is s t chain main store u e f g = rw (← e, f, g)
