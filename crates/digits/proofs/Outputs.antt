@@ -95,3 +95,10 @@ module _ (out x y : List ℕ) (at r s : ℕ) (a b : List ℕ) where
 pub added-three : (out x y z : List ℕ) (at r s t : ℕ) (a b d : List ℕ) → record { next = r; bytes = x } ≡ added out at a → record { next = s; bytes = y } ≡ added x r b
     → record { next = t; bytes = z } ≡ added y s d → record { next = t; bytes = z } ≡ added out at (a ++ b ++ d)
 added-three out x y z at r s t a b d p q o = added-more out y z at s t (a ++ b) d (added-more out x y at r s a b p q) o
+
+-- no place past the output's end is reached from one within it
+pub added-within : (out : List ℕ) (at : ℕ) (text : List ℕ) (r : ℕ) (back : List ℕ) → record { next = r; bytes = back } ≡ added out at text → at ≤ length out → r ≤ length out
+unfolding added
+added-within out at text r back e h =
+    let er : r ≡ at + min (length out - at) (length text) = ap (λ (o : Output). o .next) e in
+    omega arith

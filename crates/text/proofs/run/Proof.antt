@@ -11,6 +11,9 @@ use borrow.Author.Needs.{needs}
 use Rattle.text.proofs.run.Statement.{statement}
 use Rattle.text.proofs.run.Tie as tie
 
+slice-aggregate-print : tie.Need-slice-aggregate-print
+slice-aggregate-print c = search needs
+
 print-requires : tie.Need-print-requires
 print-requires c κs = answered _ _ _ _ _ _ _ _ _ (c .before .before .before .before .before .before .before .before .before .before .before .before .before .run-core .ensures) (c .before .before .before .before .before .before .before .before .before .before .before .before .before .run-core .kept .1 .1 .1 .1 .0 ∙ c .before .before .before .before .before .before .before .before .before .before .before .before .before .before .before .before .before .before .before .clear .kept .0 ∙ c .before .before .before .before .before .before .before .before .before .before .before .before .before .before .before .before .before .before .before .before .before .before .before .before .before .before .pre)
 
@@ -27,7 +30,7 @@ run-spec =
     (search needs)  -- clear-requires
     (search needs)  -- run-core-requires
     (search needs)  -- cast-code
-    (search needs)  -- slice-aggregate-print
+    slice-aggregate-print
     print-requires
     (search needs)  -- same-length
     (search needs)  -- same-length-2
