@@ -1,3 +1,10 @@
+-- `exercise::main` is safe and ends: what `text::exercise` returns is no more than the output holds. Assumes what io and libc do.
+use Prim.Native.Nat.{_≤_}
+use native.Mathlib.Omega.{arith}
+use mathlib.Core.Path.{_≡_, _∙_, sym}
+use lib.ListN.{length}
+use lib.Seq.{length-take-le}
+use Rattle.digits.proofs.Outputs.{added-within}
 use borrow.Author.Needs.{needs}
 use Rattle.exercise.proofs.main.Statement.{statement}
 use Rattle.exercise.proofs.main.Tie as tie
@@ -43,11 +50,15 @@ exercise-requires c κs = search needs
 
 -- src/main.rt:12:34
 array-share-prefix-output : tie.Need-array-share-prefix-output
-array-share-prefix-output c = search needs
+array-share-prefix-output c =
+    let within = added-within _ _ _ _ _ (c .before .exercise .ensures) (omega arith) in
+    omega (arith, within, c .before .exercise .kept .1 .0)
 
 -- src/main.rt:12:34
 slice-aggregate-write-all : tie.Need-slice-aggregate-write-all
-slice-aggregate-write-all c = search needs
+slice-aggregate-write-all c =
+    let within = added-within _ _ _ _ _ (c .before .before .exercise .ensures) (omega arith) in
+    sym (length-take-le _ _ (omega (arith, within, c .before .before .exercise .kept .1 .0)))
 
 -- src/main.rt:12:5
 write-all-requires : tie.Need-write-all-requires
