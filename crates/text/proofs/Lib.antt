@@ -1,2 +1,3 @@
 pub mod Devices
 pub mod Runs
+pub mod Worked
