@@ -44,7 +44,7 @@ unfolding lineLength
 line-fits [] = omega arith
 line-fits (c ∷ input) = fits (eqb c lineFeed) (lineLength input) (length input) (line-fits input) .1
 
-some-line : (input : List ℕ) → 0 < length input → 1 ≤ lineLength input
+pub some-line : (input : List ℕ) → 0 < length input → 1 ≤ lineLength input
 unfolding lineLength
 some-line [] h = absurd (omega arith)
 some-line (c ∷ input) h = fits (eqb c lineFeed) (lineLength input) (length input) (line-fits input) .0
@@ -85,7 +85,7 @@ unfolding lineLength lines
 tail-lines [] = refl
 tail-lines (c ∷ l) = ap (λ (ls : List (List ℕ)). drop 1 ls) (first-line c l)
 
-cons-lines : (l : List ℕ) → 0 < length l → lines l ≡ take (lineLength l) l ∷ lines (drop (lineLength l) l)
+pub cons-lines : (l : List ℕ) → 0 < length l → lines l ≡ take (lineLength l) l ∷ lines (drop (lineLength l) l)
 cons-lines [] h = absurd (omega arith)
 cons-lines (c ∷ l) h = first-line c l
 

@@ -33,7 +33,7 @@ unfolding pick
 picked true n later h e = (refl, e)
 picked false n later h e = absurd (omega arith)
 
-all-right : (n : ℕ) (l : List ℕ) (ls : List (List ℕ)) → 1 ≤ n → wrongFrom n (l ∷ ls) ≡ 0 → (rightLine n l ≡ true) × (wrongFrom (n + 1) ls ≡ 0)
+pub all-right : (n : ℕ) (l : List ℕ) (ls : List (List ℕ)) → 1 ≤ n → wrongFrom n (l ∷ ls) ≡ 0 → (rightLine n l ≡ true) × (wrongFrom (n + 1) ls ≡ 0)
 unfolding wrongFrom
 all-right n l ls h e = picked (rightLine n l) n (wrongFrom (n + 1) ls) h e
 

@@ -1,3 +1,4 @@
 pub mod Devices
 pub mod Runs
+pub mod Cuts
 pub mod Worked
