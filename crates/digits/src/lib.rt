@@ -46,7 +46,7 @@ fn add_last(out: &mut [u8], at: usize, n: usize) -> usize
 pub fn add_decimal(out: &mut [u8], at: usize, n: usize) -> usize
     ensures { λ r. ⌜ record { next = r; bytes = now (out .exit) } ≡ added (now (out .entry)) at (decimal n) ⌝ }
 {
-    if n < 10 {
+    if n <= 9 {
         return add_last(out, at, n);
     }
     let next = add_decimal(out, at, n / 10);

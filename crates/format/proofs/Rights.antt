@@ -1,6 +1,6 @@
 -- What follows of an input with no wrong line: each line that is looked at is there, and is right. No contract cites this file.
 use Prim.Native.Nat.{ℕ, zero, suc, _+_, _-_, _*_, _/_, _%_, _≤_, _<_}
-use native.Mathlib.Nat.{add-zero}
+use native.Mathlib.Nat.{add-zero, zero-add}
 use native.Mathlib.Numerals.{add-one}
 use native.Mathlib.Decide.{decLe}
 use native.Mathlib.Omega.{arith}
@@ -8,8 +8,8 @@ use mathlib.Core.Path.{_≡_, refl, sym, ap, _∙_}
 use mathlib.Core.Bool.{Bool, true, false, not, _&&_, false≢true}
 use mathlib.Core.List.{List, [], _∷_, _++_, append-assoc}
 use lib.Dec.{eqb, ltb}
-use lib.ListN.{length, getD, take, drop, length-drop, drop-of-length-le}
-use lib.Seq.{drop-drop, take-at}
+use lib.ListN.{length, getD, take, drop, length-append, length-drop, drop-of-length-le, take-append-drop}
+use lib.Seq.{drop-drop, drop-at, length-take-le}
 use borrow.Author.Tests.{eqb-true, ltb-true, ltb-false, le-ltb, ne-eqb, not-false, not-true}
 use borrow.Rule.Slice.PartMut.{midOf, putMid}
 use Rattle.moves.specs.Parts.{part, put}
@@ -138,9 +138,29 @@ unfolding exerciseIn
 chain-start input to at e = ap chainIn e
 
 -- the bytes that were decoded to the front
-pub storage-taken : (to back line all : List ℕ) (n : ℕ) → back ≡ bytesIn (part line 8 (length line - (8 + 1))) → bytesOf storage line ≡ all → length back ≡ n → take n (back ++ drop n to) ≡ all
-unfolding bytesOf value
-storage-taken to back line all n e f h = take-at back (drop n to) n h ∙ e ∙ f
+pub storage-put : (to back line all : List ℕ) (n : ℕ) → back ≡ bytesIn (part line 8 (length line - (8 + 1))) → bytesOf storage line ≡ all → length back ≡ n
+    → (n ≡ length all) × (back ++ drop n to ≡ put to 0 all)
+unfolding bytesOf value put
+storage-put to back line all n e f h =
+    let is : back ≡ all = e ∙ f in
+    let long : length all ≡ n = rw is at h in
+    (sym long, rw (is, zero-add, long))
+
+-- what stands after the bytes of one more ccw line is as it was
+pub chain-rest : (to first back : List ℕ) (n : ℕ) → drop n to ≡ drop n first → length back ≡ length (midOf n (n + 8 - n) to) → length back ≡ 8 → n + 8 ≤ length to
+    → drop (n + 8) (putMid n (n + 8 - n) to back) ≡ drop (n + 8) first
+unfolding put
+chain-rest to first back n e w v m =
+    let front : length (take n to ++ back) ≡ n + 8 = rw (length-append, length-take-le n to (omega arith), v) in
+    let whole : putMid n (n + 8 - n) to back ≡ take n to ++ back ++ drop (n + 8) to = rw v at (put-lent-whole to back n 8 w m) in
+    ap (λ (l : List ℕ). drop (n + 8) l) whole ∙ drop-at (take n to ++ back) (drop (n + 8) to) (n + 8) front ∙ sym (drop-drop 8 n to) ∙ ap (λ (l : List ℕ). drop 8 l) e ∙ drop-drop 8 n first
+
+-- the whole chain stands at the front
+pub chain-put : (to first all : List ℕ) (n : ℕ) → all ≡ take n to → drop n to ≡ drop n first → n ≤ length to → (n ≡ length all) × (to ≡ put first 0 all)
+unfolding put
+chain-put to first all n e f h =
+    let long : length all ≡ n = rw e (length-take-le n to h) in
+    (sym long, sym (take-append-drop n to) ∙ rw (← e, f, zero-add, long))
 
 -- the device of a right input is no larger than it may be
 blocks-in : (ls : List (List ℕ)) → wrongFrom 1 ls ≡ 0 → exerciseIn ls .settings .blocks ≤ 64

@@ -6,8 +6,8 @@ use digits::is_hex;
 ghost use mathlib.Core.Path.{_≡_};
 ghost use mathlib.Core.List.{[]};
 ghost use Prim.Native.Nat.{_+_, _-_, _≤_, _<_};
-ghost use lib.ListN.{length, getD, take, drop};
-ghost use Rattle.moves.specs.Parts.{part};
+ghost use lib.ListN.{length, getD, drop};
+ghost use Rattle.moves.specs.Parts.{part, put};
 ghost use Rattle.digits.specs.Digits.{bytesIn};
 ghost use Rattle.format.specs.Format.{lines, field, keyed, numberIn, numberOf, hexLine, rightLine, wrongLine, Exercise, exerciseIn};
 ghost use Rattle.format.specs.Lengths.{lineLength};
@@ -188,7 +188,7 @@ fn bytes_of(line: &[u8], from: usize, to: &mut [u8])
 // Main storage goes to the front of `to`, and its length is returned.
 pub fn storage_in(input: &[u8], to: &mut [u8]) -> usize
     requires { ⌜ (wrongLine (now input) ≡ 0) × (length (now to) ≡ 1024) ⌝ }
-    ensures { λ r. ⌜ (r ≤ 1024) × (take r (now (to .exit)) ≡ exerciseIn (lines (now (input .entry))) .storage) ⌝ }
+    ensures { λ r. ⌜ (r ≡ length (exerciseIn (lines (now (input .entry))) .storage)) × (now (to .exit) ≡ put (now (to .entry)) 0 (exerciseIn (lines (now (input .entry))) .storage)) ⌝ }
 {
     let at = line_start(input, 3);
     let long = line_length(&input[at..]);
@@ -201,7 +201,7 @@ pub fn storage_in(input: &[u8], to: &mut [u8]) -> usize
 // The chain goes to the front of `to`, and its length is returned.
 pub fn chain_in(input: &[u8], to: &mut [u8]) -> usize
     requires { ⌜ (wrongLine (now input) ≡ 0) × (length (now to) ≡ 256) ⌝ }
-    ensures { λ r. ⌜ (r ≤ 256) × (take r (now (to .exit)) ≡ exerciseIn (lines (now (input .entry))) .chain) ⌝ }
+    ensures { λ r. ⌜ (r ≡ length (exerciseIn (lines (now (input .entry))) .chain)) × (now (to .exit) ≡ put (now (to .entry)) 0 (exerciseIn (lines (now (input .entry))) .chain)) ⌝ }
 {
     let mut at = line_start(input, 4);
     let mut n = 0;

@@ -1,15 +1,17 @@
 -- What a run gave is what is printed. No contract cites this file.
-use Prim.Native.Nat.{ℕ, _+_, _*_, _/_, _%_, _≤_, _<_}
+use Prim.Native.Nat.{ℕ, _+_, _-_, _*_, _/_, _%_, _≤_, _<_}
+use native.Mathlib.Nat.{zero-add}
 use native.Mathlib.Omega.{arith}
 use mathlib.Core.Path.{_≡_, refl, sym, ap, _∙_}
-use mathlib.Core.List.{List}
-use lib.ListN.{length}
+use mathlib.Core.List.{List, _++_}
+use lib.ListN.{length, take, drop, length-append, length-drop}
+use lib.Seq.{take-at}
 use Rattle.model.specs.declared.record.Record.{Record}
 use Rattle.model.specs.Chain.{Called, call}
 use Rattle.model.specs.Host.{resultOf}
 use Rattle.model.proofs.Endings.{call-reached}
 use Rattle.model.proofs.Hosts.{result-reads}
-use Rattle.moves.specs.Parts.{zeros}
+use Rattle.moves.specs.Parts.{put, zeros}
 use Rattle.model.specs.Lent.{newRecord}
 use Rattle.format.specs.declared.Settings.{Settings}
 use Rattle.text.specs.Exercise.{device, performed}
@@ -45,3 +47,11 @@ pub performed-is : (s t : Settings) (chain main store : List ℕ) (u : Record) �
     → printout (call chain main store u (zeros (length chain))) ≡ printout (performed (record { settings = t; storage = main; chain = chain }))
 unfolding performed
 performed-is s t chain main store u e f g = rw (← e, f, g)
+
+-- bytes that were put at the front of a buffer are what is lent of it
+pub front-is : (to back bytes : List ℕ) (n : ℕ) → n ≡ length bytes → back ≡ put to 0 bytes → length back ≡ length to → (n ≤ length to) × (take n back ≡ bytes)
+unfolding put
+front-is to back bytes n e f h =
+    let is : back ≡ bytes ++ drop (length bytes) to = rw zero-add at f in
+    let long : length back ≡ length bytes + (length to - length bytes) = rw (is, length-append, length-drop) in
+    (omega arith, rw is (take-at bytes _ n (sym e)))

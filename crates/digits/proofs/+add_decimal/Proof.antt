@@ -30,7 +30,7 @@ first-same-length t c = c .before .before .add-last .kept .0
 first-returns : (t : ℕ) → lts.Need-returns (last-reads.Asked, last-reads.Learnt, below t, reads.Post) (at t) reads.Post
 first-returns t c =
     let a = c .before .before .before .before .before .before .args in
-    c .before .before .add-last .ensures ∙ ap (added (a .out .now) (a .at)) (sym (decimal-one (a .n) (c .before .before .before .before .if1 .taken)))
+    c .before .before .add-last .ensures ∙ ap (added (a .out .now) (a .at)) (sym (decimal-one (a .n) (omega (arith, c .before .before .before .before .if1 .taken))))
 
 shorter : (t : ℕ) → lts.Need-add-decimal-requires (last-reads.Asked, last-reads.Learnt, below t, reads.Post) (at t) reads.Post
 shorter t c κs =

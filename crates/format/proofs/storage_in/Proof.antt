@@ -1,6 +1,6 @@
 -- `format::storage_in` meets its contract: line 4 is there and right, so its bytes fit and are decoded. Assumes nothing.
 use Prim.Native.Nat.{ℕ, _-_, _/_}
-use Rattle.format.proofs.Rights.{storage-is, storage-taken}
+use Rattle.format.proofs.Rights.{storage-is, storage-put}
 use native.Mathlib.Omega.{arith}
 use mathlib.Core.Path.{_≡_, _∙_, sym, refl}
 use lib.ListN.{length, take}
@@ -43,7 +43,7 @@ returns c =
     let s = storage-is (c .before .before .before .before .before .before .before .before .before .before .args .input .now) (c .before .before .before .before .before .before .before .line-start .result) _ _ (c .before .before .before .before .before .before .before .before .before .before .pre .0) (c .before .before .before .before .before .before .before .line-start .ensures .0) k refl in
     let n : ℕ = (c .before .before .before .before .before .line-length .result - 9) / 2 in
     let half : length (take n (c .before .before .before .before .before .before .before .before .before .before .args .to .now)) ≡ n = length-take-le n (c .before .before .before .before .before .before .before .before .before .before .args .to .now) (omega (arith, s .1, c .before .before .before .before .before .before .before .before .before .before .pre .1)) in
-    (s .1, storage-taken (c .before .before .before .before .before .before .before .before .before .before .args .to .now) _ _ _ n (rw part-lent at (c .before .before .bytes-of .ensures)) (s .3) (c .before .before .bytes-of .kept .1 .1 .0 ∙ half))
+    storage-put (c .before .before .before .before .before .before .before .before .before .before .args .to .now) _ _ _ n (rw part-lent at (c .before .before .bytes-of .ensures)) (s .3) (c .before .before .bytes-of .kept .1 .1 .0 ∙ half)
 
 pub storage-in-spec : {M : Type 1} → statement M
 storage-in-spec =
