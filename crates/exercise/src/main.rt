@@ -1,6 +1,6 @@
 // Reads a chain as text from standard input, and writes what happened. All the work is `text::exercise`.
-// An input of more than 4,096 bytes is cut there: by the law `cut-input` in crates/text/proofs it gets the same answer,
-// since no right input is longer than 2,758 bytes. By the law `printout-fits` no answer is longer than the output.
+// An input of more than 4,096 bytes is cut there, which changes nothing (the law `cut-input` in crates/text/proofs: no right
+// input is so long), and the output holds every answer whole (the law `printout-fits` there).
 use libc::STDIN_FILENO;
 use libc::STDOUT_FILENO;
 

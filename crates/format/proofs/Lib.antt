@@ -2,3 +2,4 @@ pub mod Lines
 pub mod Values
 pub mod Rights
 pub mod Cuts
+pub mod Sizes

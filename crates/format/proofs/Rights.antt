@@ -24,7 +24,7 @@ use Rattle.format.proofs.Values.{length-value, keyed-long}
 
 -- of lines that are all right
 
-missing : (n : ℕ) → 1 ≤ n → n ≤ 5 → wrongFrom n [] ≡ 0 → ⊥
+pub missing : (n : ℕ) → 1 ≤ n → n ≤ 5 → wrongFrom n [] ≡ 0 → ⊥
 unfolding wrongFrom pick
 missing n h m e = omega (arith, rw (le-ltb 5 n m) at e)
 
@@ -37,7 +37,7 @@ pub all-right : (n : ℕ) (l : List ℕ) (ls : List (List ℕ)) → 1 ≤ n → 
 unfolding wrongFrom
 all-right n l ls h e = picked (rightLine n l) n (wrongFrom (n + 1) ls) h e
 
-later-right : (i n : ℕ) (ls : List (List ℕ)) → 1 ≤ n → n + i ≤ 5 → wrongFrom n ls ≡ 0 → wrongFrom (n + i) (drop i ls) ≡ 0
+pub later-right : (i n : ℕ) (ls : List (List ℕ)) → 1 ≤ n → n + i ≤ 5 → wrongFrom n ls ≡ 0 → wrongFrom (n + i) (drop i ls) ≡ 0
 later-right zero n ls h m e = rw add-zero e
 later-right (suc i) n [] h m e = absurd (missing n h (omega arith) e)
 later-right (suc i) n (l ∷ ls) h m e =
