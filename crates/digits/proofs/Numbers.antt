@@ -1,16 +1,14 @@
 -- Laws of numbers and bytes as text, one digit or one byte at a time. No contract cites this file.
 use Prim.Native.Nat.{ℕ, zero, suc, _+_, _*_, _/_, _%_, _≤_, _<_}
-use native.Mathlib.Nat.{zero-add, add-zero, suc-add}
 use native.Mathlib.Numerals.{add-one}
 use native.Mathlib.Decide.{decLe}
 use native.Mathlib.Omega.{arith}
 use mathlib.Core.Path.{_≡_, refl, sym, ap, _∙_}
 use mathlib.Core.Bool.{Bool, true, false, _&&_, false≢true as ff}
 use mathlib.Core.List.{List, [], _∷_, _++_, append-assoc, append-nil}
-use lib.Dec.{eqb, ltb}
-use lib.ListN.{length, getD, take, drop, length-append, length-drop, length-set, drop-of-length-le, set}
+use lib.ListN.{length, getD, take, drop, length-append, drop-of-length-le, set}
 use lib.Seq.{take-suc, take-suc-set, take-all, drop-cons}
-use borrow.Author.Tests.{lt-ltb, le-ltb, ltb-true, ltb-false, eqb-true, eq-eqb, ne-eqb}
+use borrow.Author.Tests.{lt-ltb, le-ltb, eqb-true, eq-eqb, ne-eqb}
 use Rattle.model.specs.Rules.{pick}
 use Rattle.digits.specs.Digits.{digit, decimalOf, decimal, hex, valueOf, isDigit, allDigits, bytesIn, same}
 

@@ -2,26 +2,24 @@
 --     room         the most bytes that right lines from line n on have
 --     right-short  an input with no wrong line has no more
 --     cut-wrong    an input that is cut after more bytes has its first wrong line where it had it
-use Prim.Native.Nat.{ℕ, zero, suc, _+_, _-_, _*_, _/_, _≤_, _<_, min}
+use Prim.Native.Nat.{ℕ, zero, suc, _+_, _-_, _*_, _≤_, _<_, min}
 use native.Mathlib.Nat.{zero-min, min-zero, sub-zero, suc-sub-suc}
 use native.Mathlib.Decide.{decLe}
 use native.Mathlib.Omega.{arith}
-use mathlib.Core.Path.{_≡_, refl, sym, ap, _∙_}
-use mathlib.Core.Bool.{Bool, true, false, _&&_, false≢true}
-use mathlib.Core.List.{List, [], _∷_, _++_}
+use mathlib.Core.Path.{_≡_, refl, sym, _∙_}
+use mathlib.Core.Bool.{Bool, true, false}
+use mathlib.Core.List.{List, [], _∷_}
 use lib.Dec.{eqb, ltb}
-use lib.ListN.{length, getD, take, drop, length-drop, length-take, drop-of-length-le}
+use lib.ListN.{length, take, drop, length-drop}
 use lib.Seq.{take-all, take-nil, take-take, length-take-le}
-use borrow.Author.Tests.{eqb-true, eqb-false, eq-eqb, ltb-true, ltb-false, le-ltb}
-use Rattle.moves.specs.Parts.{part}
+use borrow.Author.Tests.{ltb-true, le-ltb}
 use Rattle.model.specs.Rules.{pick}
-use Rattle.model.proofs.Picks.{pick-ind}
 use Rattle.digits.specs.Digits.{decimal, same}
 use Rattle.digits.proofs.Numbers.{decimal-short, same-true}
 use Rattle.printout.specs.Printout.{lineFeed}
-use Rattle.format.specs.Format.{Field, field, lines, blocks, ready, readonly, storage, ccw, keyed, value, numberIn, numberOf, hexLine, rightLine, wrongFrom, wrongLine}
+use Rattle.format.specs.Format.{Field, lines, blocks, ready, readonly, storage, ccw, keyed, value, numberIn, numberOf, rightLine, wrongFrom, wrongLine}
 use Rattle.format.specs.Lengths.{lineLength}
-use Rattle.format.proofs.Lines.{no-lines, cons-lines, line-fits, some-line}
+use Rattle.format.proofs.Lines.{cons-lines, line-fits, some-line}
 use Rattle.format.proofs.Values.{length-value, keyed-long}
 use Rattle.format.proofs.Rights.{hex-is, all-right, storage-right, ccw-right}
 

@@ -1,21 +1,21 @@
 -- Laws of lines: the first of an input, those after it, and whether they are right. No contract cites this file.
-use Prim.Native.Nat.{ℕ, zero, suc, _+_, _-_, _≤_, _<_}
+use Prim.Native.Nat.{ℕ, suc, _+_, _-_, _≤_, _<_}
 use native.Mathlib.Nat.{add-zero}
 use native.Mathlib.Numerals.{add-one}
 use native.Mathlib.Omega.{arith}
 use mathlib.Core.Path.{_≡_, refl, sym, ap, _∙_}
-use mathlib.Core.Bool.{Bool, true, false, not}
-use mathlib.Core.List.{List, [], _∷_, _++_}
+use mathlib.Core.Bool.{Bool, true, false}
+use mathlib.Core.List.{List, [], _∷_}
 use lib.Dec.{eqb, ltb}
 use lib.ListN.{length, getD, take, drop, length-drop, drop-of-length-le}
-use lib.Seq.{drop-cons, drop-drop, getD-drop, drop-nil}
-use borrow.Author.Tests.{eq-eqb, ne-eqb, lt-ltb, le-ltb}
+use lib.Seq.{drop-cons, drop-drop, getD-drop}
+use borrow.Author.Tests.{eq-eqb, ne-eqb}
 use borrow.Rule.Slice.PartMut.{midOf}
 use Rattle.moves.specs.Parts.{part}
 use Rattle.moves.proofs.Laws.{rest-lent}
 use Rattle.model.specs.Rules.{pick}
 use Rattle.printout.specs.Printout.{lineFeed}
-use Rattle.format.specs.Format.{onto, lines, rightLine, wrongFrom, wrongLine}
+use Rattle.format.specs.Format.{onto, lines, rightLine, wrongFrom}
 use Rattle.format.specs.Lengths.{lineLength}
 
 -- the length of a line

@@ -1,23 +1,22 @@
 -- What follows of an input with no wrong line: each line that is looked at is there, and is right. No contract cites this file.
-use Prim.Native.Nat.{ℕ, zero, suc, _+_, _-_, _*_, _/_, _%_, _≤_, _<_}
+use Prim.Native.Nat.{ℕ, zero, suc, _+_, _-_, _/_, _%_, _≤_, _<_}
 use native.Mathlib.Nat.{add-zero, zero-add}
-use native.Mathlib.Numerals.{add-one}
 use native.Mathlib.Decide.{decLe}
 use native.Mathlib.Omega.{arith}
 use mathlib.Core.Path.{_≡_, refl, sym, ap, _∙_}
-use mathlib.Core.Bool.{Bool, true, false, not, _&&_, false≢true}
+use mathlib.Core.Bool.{Bool, true, false, false≢true}
 use mathlib.Core.List.{List, [], _∷_, _++_, append-assoc}
-use lib.Dec.{eqb, ltb}
-use lib.ListN.{length, getD, take, drop, length-append, length-drop, drop-of-length-le, take-append-drop}
+use lib.Dec.{ltb}
+use lib.ListN.{length, take, drop, length-append, drop-of-length-le, take-append-drop}
 use lib.Seq.{drop-drop, drop-at, length-take-le}
-use borrow.Author.Tests.{eqb-true, ltb-true, ltb-false, le-ltb, ne-eqb, not-false, not-true}
+use borrow.Author.Tests.{eqb-true, ltb-true, ltb-false, le-ltb, ne-eqb, not-true}
 use borrow.Rule.Slice.PartMut.{midOf, putMid}
 use Rattle.moves.specs.Parts.{part, put}
 use Rattle.moves.proofs.Laws.{length-part, put-lent-whole, take-put}
 use Rattle.model.specs.Rules.{pick}
 use Rattle.digits.specs.Digits.{isHex, bytesIn}
 use Rattle.digits.proofs.Numbers.{and-true}
-use Rattle.format.specs.Format.{Field, lines, blocks, numberOf, storage, ccw, value, keyed, bytesOf, hexLine, rightLine, wrongFrom, wrongLine, chainIn, exerciseIn}
+use Rattle.format.specs.Format.{Field, lines, blocks, numberOf, storage, ccw, value, bytesOf, hexLine, rightLine, wrongFrom, wrongLine, chainIn, exerciseIn}
 use Rattle.format.specs.Lengths.{lineLength}
 use Rattle.format.proofs.Lines.{no-lines, line-at, lines-at, line-inside}
 use Rattle.format.proofs.Values.{length-value, keyed-long}

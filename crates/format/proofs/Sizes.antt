@@ -1,18 +1,17 @@
 -- What is read from an input is bytes, and no more than fits. No contract cites this file.
-use Prim.Native.Nat.{ℕ, zero, suc, _+_, _-_, _*_, _/_, _≤_, _<_}
+use Prim.Native.Nat.{ℕ, _+_, _-_, _*_, _≤_, _<_}
 use native.Mathlib.Decide.{decLe}
 use native.Mathlib.Omega.{arith}
-use mathlib.Core.Path.{_≡_, refl, sym, ap, _∙_}
-use mathlib.Core.Bool.{Bool, true, false}
-use mathlib.Core.List.{List, [], _∷_, _++_}
+use mathlib.Core.Path.{_≡_, refl, sym}
+use mathlib.Core.Bool.{Bool, true}
+use mathlib.Core.List.{List, [], _∷_}
 use lib.ListN.{length, getD, drop}
 use lib.Seq.{getD-drop}
 use Rattle.numbers.specs.Bytes.{AreBytes}
 use Rattle.numbers.proofs.Bytes.{bytes-nil, bytes-cons, bytes-append}
-use Rattle.model.specs.Rules.{pick}
 use Rattle.model.proofs.Picks.{pick-ind}
 use Rattle.digits.specs.Digits.{valueOf, bytesIn}
-use Rattle.format.specs.Format.{lines, ready, readonly, storage, ccw, value, numberOf, bytesOf, hexLine, rightLine, wrongFrom, wrongLine, Exercise, chainIn, exerciseIn}
+use Rattle.format.specs.Format.{lines, ready, readonly, storage, value, bytesOf, rightLine, wrongFrom, wrongLine, Exercise, chainIn, exerciseIn}
 use Rattle.format.proofs.Values.{length-value, number-bounded}
 use Rattle.format.proofs.Rights.{missing, all-right, later-right, storage-right, ccw-right, hex-is}
 

@@ -1,14 +1,13 @@
 -- Laws of keys and values. No contract cites this file.
 use Prim.Native.Nat.{ℕ, zero, suc, _+_, _-_, _/_, _≤_, _<_}
-use native.Mathlib.Nat.{add-zero}
 use native.Mathlib.Omega.{arith}
-use mathlib.Core.Path.{_≡_, refl, sym, ap, _∙_}
-use mathlib.Core.Bool.{Bool, true, false, not, _&&_}
-use mathlib.Core.List.{List, [], _∷_, _++_}
-use lib.Dec.{eqb, leb, ltb, leb·suc-suc}
+use mathlib.Core.Path.{_≡_, sym, _∙_}
+use mathlib.Core.Bool.{Bool, true, false}
+use mathlib.Core.List.{List}
+use lib.Dec.{leb, ltb, leb·suc-suc}
 use native.Mathlib.Numerals.{add-one}
-use lib.ListN.{length, getD, take, drop}
-use borrow.Author.Tests.{eq-eqb, ne-eqb, lt-ltb, le-ltb, ltb-true}
+use lib.ListN.{length}
+use borrow.Author.Tests.{lt-ltb, le-ltb, ltb-true}
 use borrow.Rule.Slice.PartMut.{midOf}
 use Rattle.moves.specs.Parts.{part}
 use Rattle.moves.proofs.Laws.{length-part}
@@ -16,7 +15,6 @@ use Rattle.model.specs.Rules.{pick}
 use Rattle.model.proofs.Picks.{pick-ind}
 use Rattle.digits.specs.Digits.{decimal, isHex, same}
 use Rattle.digits.proofs.Numbers.{and-true}
-use Rattle.printout.specs.Printout.{lineFeed}
 use Rattle.format.specs.Format.{field, keyed, value, numberIn, numberOf, hexLine}
 
 -- a line that has a key is longer than it

@@ -1,6 +1,6 @@
 -- An input may be cut after 4,096 bytes: what is printed for it stays. No contract cites this file; the program relies on it.
 use Prim.Native.Nat.{ℕ}
-use mathlib.Core.Path.{_≡_, refl, sym, ap, _∙_}
+use mathlib.Core.Path.{_≡_, refl, ap}
 use mathlib.Core.Bool.{Bool, true, false}
 use mathlib.Core.List.{List}
 use lib.Dec.{eqb}
@@ -8,7 +8,7 @@ use lib.ListN.{take}
 use lib.Seq.{take-all}
 use borrow.Author.Tests.{eqb-true}
 use Rattle.model.specs.Rules.{pick}
-use Rattle.printout.specs.Printout.{refusal, printout}
+use Rattle.printout.specs.Printout.{printout}
 use Rattle.format.specs.Format.{lines, wrongLine, exerciseIn}
 use Rattle.format.proofs.Cuts.{wrong-cut, right-fits}
 use Rattle.text.specs.Exercise.{performed, exercise}

@@ -1,11 +1,10 @@
 -- Laws of a device whose block i is filled with byte i. No contract cites this file.
 use Prim.Native.Nat.{ℕ, zero, suc, _+_, _-_, _*_, _/_, _≤_, _<_}
-use native.Mathlib.Nat.{zero-mul}
 use native.Mathlib.Numerals.{add-one}
 use native.Mathlib.Decide.{decLe}
 use native.Mathlib.Omega.{arith}
 use mathlib.Core.Path.{_≡_, refl, sym, ap, _∙_}
-use mathlib.Core.List.{List, [], _∷_, _++_}
+use mathlib.Core.List.{List, _++_}
 use lib.ListN.{length, getD, set, take, drop, replicate, length-append, length-replicate, List·getD-append}
 use lib.Seq.{take-suc, take-suc-set, take-all, take-at, getD-append-add}
 use Rattle.text.specs.Exercise.{device}

@@ -2,7 +2,7 @@
 use Prim.Native.Nat.{ℕ, _+_, _-_, _*_, _/_, _%_, _≤_, _<_}
 use native.Mathlib.Nat.{zero-add}
 use native.Mathlib.Omega.{arith}
-use mathlib.Core.Path.{_≡_, refl, sym, ap, _∙_}
+use mathlib.Core.Path.{_≡_, refl, sym, ap}
 use mathlib.Core.List.{List, _++_}
 use lib.ListN.{length, take, drop, length-append, length-drop}
 use lib.Seq.{take-at}
@@ -16,7 +16,7 @@ use Rattle.model.specs.Lent.{newRecord}
 use Rattle.format.specs.declared.Settings.{Settings}
 use Rattle.text.specs.Exercise.{device, performed}
 use Rattle.lent.specs.declared.Ran.{Ran}
-use Rattle.lent.specs.Run.{Outcome, given, outcome, After}
+use Rattle.lent.specs.Run.{Outcome, outcome, After}
 use Rattle.lent.proofs.Reached.{reached-few}
 use Rattle.printout.specs.Printout.{printoutOf, printout}
 

@@ -2,7 +2,7 @@
 -- Assumes nothing.
 use Prim.Native.Nat.{_+_, _≤_, _-_, _*_}
 use native.Mathlib.Omega.{arith}
-use mathlib.Core.Path.{refl, _≡_, _∙_, sym}
+use mathlib.Core.Path.{refl, _≡_, _∙_}
 use mathlib.Core.List.{_++_, append-nil}
 use lib.ListN.{length, take, drop}
 use borrow.Rule.Slice.PartMut.{midOf, mid-len}
