@@ -41,6 +41,16 @@ examples =
     -- no ccw; something after the last
     ∷ gives "blocks=8\nready=1\nreadonly=0\nstorage=\n" "refused=5\n"
     ∷ gives "blocks=8\nready=1\nreadonly=0\nstorage=\nccw=0300000020000001\n\n" "refused=6\n"
+    -- a data set is written and read back (exercises/02-data-set.md); it is moved; its LOCATE is for one block
+    ∷ gives
+    "blocks=8\nready=1\nreadonly=0\nstorage=C0000000000000020000000A0000000B010000020000000A060000010000000A060000010000000B4C4F554748524541FFFFFFFFFFFFFFFFFFFFFFFFFFFFFFFF\nccw=6300000040000010\nccw=4300001040000008\nccw=4100002860000008\nccw=4300001840000008\nccw=4200003060000008\nccw=4300002040000008\nccw=4200003820000008\n"
+    "cause=0\nreached=7\ncommand=1\nstatus=0C\nchannel=00\nresidual=0\nwhy=0\nblocks=0\ncommand=2\nstatus=0C\nchannel=00\nresidual=0\nwhy=0\nblocks=0\ncommand=3\nstatus=0C\nchannel=00\nresidual=0\nwhy=0\nblocks=1\ncommand=4\nstatus=0C\nchannel=00\nresidual=0\nwhy=0\nblocks=0\ncommand=5\nstatus=0C\nchannel=00\nresidual=0\nwhy=0\nblocks=1\ncommand=6\nstatus=0C\nchannel=00\nresidual=0\nwhy=0\nblocks=0\ncommand=7\nstatus=0C\nchannel=00\nresidual=0\nwhy=0\nblocks=1\nstorage=C0000000000000020000000A0000000B010000020000000A060000010000000A060000010000000B4C4F5547485245414C4F5547485245410000000000000000\nsense=000000000000000000000000000000000000000000000000\n"
+    ∷ gives
+    "blocks=8\nready=1\nreadonly=0\nstorage=C0000000000000050000000A0000000B010000020000000A060000010000000A060000010000000B4C4F554748524541FFFFFFFFFFFFFFFFFFFFFFFFFFFFFFFF\nccw=6300000040000010\nccw=4300001040000008\nccw=4100002860000008\nccw=4300001840000008\nccw=4200003060000008\nccw=4300002040000008\nccw=4200003820000008\n"
+    "cause=0\nreached=7\ncommand=1\nstatus=0C\nchannel=00\nresidual=0\nwhy=0\nblocks=0\ncommand=2\nstatus=0C\nchannel=00\nresidual=0\nwhy=0\nblocks=0\ncommand=3\nstatus=0C\nchannel=00\nresidual=0\nwhy=0\nblocks=1\ncommand=4\nstatus=0C\nchannel=00\nresidual=0\nwhy=0\nblocks=0\ncommand=5\nstatus=0C\nchannel=00\nresidual=0\nwhy=0\nblocks=1\ncommand=6\nstatus=0C\nchannel=00\nresidual=0\nwhy=0\nblocks=0\ncommand=7\nstatus=0C\nchannel=00\nresidual=0\nwhy=0\nblocks=1\nstorage=C0000000000000050000000A0000000B010000020000000A060000010000000A060000010000000B4C4F5547485245414C4F5547485245410000000000000000\nsense=000000000000000000000000000000000000000000000000\n"
+    ∷ gives
+    "blocks=8\nready=1\nreadonly=0\nstorage=C0000000000000020000000A0000000B010000010000000A060000010000000A060000010000000B4C4F554748524541FFFFFFFFFFFFFFFFFFFFFFFFFFFFFFFF\nccw=6300000040000010\nccw=4300001040000008\nccw=4100002860000008\nccw=4300001840000008\nccw=4200003060000008\nccw=4300002040000008\nccw=4200003820000008\n"
+    "cause=0\nreached=7\ncommand=1\nstatus=0C\nchannel=00\nresidual=0\nwhy=0\nblocks=0\ncommand=2\nstatus=0C\nchannel=00\nresidual=0\nwhy=0\nblocks=0\ncommand=3\nstatus=0C\nchannel=00\nresidual=0\nwhy=0\nblocks=1\ncommand=4\nstatus=0C\nchannel=00\nresidual=0\nwhy=0\nblocks=0\ncommand=5\nstatus=0C\nchannel=00\nresidual=0\nwhy=0\nblocks=1\ncommand=6\nstatus=0C\nchannel=00\nresidual=0\nwhy=0\nblocks=0\ncommand=7\nstatus=0C\nchannel=00\nresidual=0\nwhy=0\nblocks=1\nstorage=C0000000000000020000000A0000000B010000010000000A060000010000000A060000010000000B4C4F5547485245414C4F5547485245410303030303030303\nsense=000000000000000000000000000000000000000000000000\n"
     ∷ []
 
 pub worked : map (λ (e : Example). exercise (ascii (e .input))) examples ≡ map (λ (e : Example). ascii (e .printed)) examples
