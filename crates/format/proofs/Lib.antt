@@ -1,0 +1,5 @@
+pub mod Lines
+pub mod Values
+pub mod Rights
+pub mod Cuts
+pub mod Sizes

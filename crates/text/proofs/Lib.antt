@@ -1,0 +1,5 @@
+pub mod Devices
+pub mod Runs
+pub mod Cuts
+pub mod Sizes
+pub mod Worked
