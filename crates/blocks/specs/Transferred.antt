@@ -10,8 +10,7 @@ use Rattle.moves.specs.Parts.{zeros}
 use Rattle.model.specs.declared.ccw.Ccw.{Ccw}
 use Rattle.model.specs.declared.extent.Extent.{Extent}
 use Rattle.model.specs.declared.state.Before.the-variants.{Other, ReadIpl}
-use Rattle.model.specs.declared.state.State.{State}
-use Rattle.model.specs.declared.state.Done.{Done}
+use Rattle.model.specs.State.{State, Done}
 use Rattle.model.specs.Names.{write-check}
 use Rattle.model.specs.Rules.{_=?_, pick}
 use Rattle.model.specs.Log.{withSense, readCounted, writtenCounted, movementCounted}

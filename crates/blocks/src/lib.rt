@@ -1,37 +1,38 @@
 // READ, WRITE and READ IPL: the commands that move blocks. The block size is a parameter: nothing here knows 512.
+use log::movement_counted;
+use log::read_counted;
+use log::written_counted;
 use model::ccw::Ccw;
 use model::extent::Displacement;
 use model::extent::Extent;
 use model::extent::Offset;
-use model::record::Record;
+use model::record::Counts;
 use model::state::Before;
-use model::state::Done;
-use model::state::State;
-use outcomes::after;
+use outcomes::Done;
 use outcomes::ended;
-use outcomes::extent_set;
 use outcomes::refuse;
-use records::log::movement_counted;
-use records::log::no_sense;
-use records::log::read_counted;
-use records::log::written_counted;
+use running::Running;
+use running::after;
+use running::extent_set;
 use transfer::begun;
 use transfer::blocks_into;
 use transfer::blocks_to;
 ghost use mathlib.Core.Path.{_≡_};
-ghost use mathlib.Core.Bool.{true, false};
-ghost use mathlib.Core.List.{List};
-ghost use Prim.Native.Nat.{ℕ, _+_, _-_, _*_, _≤_, _<_, min};
+ghost use mathlib.Core.Bool.{true};
+ghost use Prim.Native.Nat.{_+_, _*_, _≤_, _<_, min};
 ghost use lib.Dec.{eqb};
 ghost use lib.ListN.{length};
+ghost use Rattle.model.specs.declared.record.Record.{Record};
 ghost use Rattle.model.specs.Rules.{pick, firstOf};
-ghost use Rattle.model.specs.Lent.{fetched, blockCount, blocksInto};
+ghost use Rattle.model.specs.Lent.{blockCount};
 ghost use Rattle.model.specs.Parameters.{address, reads, writes};
 ghost use Rattle.model.specs.Causes.{a-locate, none-or-ipl, transferCauses, readIplCauses};
 ghost use Rattle.model.specs.Log.{writtenCounted};
-ghost use Rattle.model.specs.Commands.{out, decided, read, write, readIpl, wholeDevice};
-ghost use Rattle.model.specs.Safe.{Safe};
+ghost use Rattle.model.specs.Commands.{decided, read, write, readIpl};
+ghost use Rattle.log.specs.Counts.{counted};
+ghost use Rattle.running.specs.Standing.{stateOf, Secure};
 ghost use Rattle.outcomes.specs.Cleared.{cleared};
+ghost use Rattle.outcomes.specs.Report.{reported, report, outcome, outcomeOf};
 ghost use Rattle.blocks.specs.Transferred.{readDone, writeDone, wholeOf, iplDone, Sized};
 
 // Directly before stood an accepted LOCATE.
@@ -58,7 +59,7 @@ fn none_or_ipl(before: Before) -> bool
     }
 }
 
-fn is_read(operation: u8) -> bool
+fn is_read(operation: u32) -> bool
     ensures { λ r. ⌜ r ≡ reads operation ⌝ }
 {
     if operation == 6 {
@@ -67,7 +68,7 @@ fn is_read(operation: u8) -> bool
     operation == 2
 }
 
-fn is_write(operation: u8) -> bool
+fn is_write(operation: u32) -> bool
     ensures { λ r. ⌜ r ≡ writes operation ⌝ }
 {
     if operation == 1 {
@@ -84,8 +85,8 @@ pub struct Move {
 }
 
 // By the LOCATE before, the address rule and the count.
-fn located_move(size: usize, c: Ccw, s: State, store: &[u8]) -> Move
-    requires { ⌜ Sized size c (now store) × Safe s (blockCount size (now store)) × (a-locate (s .before) ≡ true) ⌝ }
+fn located_move(size: usize, c: Ccw, s: Running, store: &[u8]) -> Move
+    requires { ⌜ Sized size c (now store) × Secure s (blockCount size (now store)) × (a-locate (s .before) ≡ true) ⌝ }
     ensures { λ r. ⌜ (r .block ≡ address (s .extent) (s .located .displacement)) × (r .can ≡ s .located .blocks * size) × (r .n ≡ min (c .count) (s .located .blocks * size)) ⌝ }
 {
     let e = s.extent;
@@ -100,72 +101,72 @@ fn located_move(size: usize, c: Ccw, s: State, store: &[u8]) -> Move
 }
 
 // The READ's answer and record, once its bytes are moved.
-fn read_done(size: usize, s: State, m: Move) -> Done
-    requires { ⌜ (1 ≤ size) × (size ≤ 65535) × (m .n < 65536) ⌝ }
-    ensures { λ r. ⌜ r ≡ readDone size s (m .n) (m .can) ⌝ }
+fn read_done(size: usize, c: Ccw, s: Running, m: Move) -> Done
+    requires { ⌜ (1 ≤ size) × (size ≤ 65535) × (c .count < 65536) × (m .n ≤ c .count) ⌝ }
+    ensures { λ r. ⌜ ((u : Record) → reported u c r ≡ report c (readDone size (stateOf u s) (m .n) (m .can))) ⌝ }
 {
     let blocks = begun(size, m.n);
-    let u = read_counted(blocks, no_sense(s.unit));
-    let t = after(s, u, Before::Other);
-    ended(t, m.n, m.can, blocks)
+    let k = read_counted(blocks, s.counts);
+    let t = after(s, k, Before::Other);
+    ended(c, t, m.n, m.can, blocks)
 }
 
-pub fn read(size: usize, c: Ccw, s: State, main: &mut [u8], store: &[u8]) -> Done
-    requires { ⌜ Sized size c (now store) × Safe s (blockCount size (now store)) × (c .address + c .count ≤ length (now main)) ⌝ }
-    ensures { λ r. ⌜ out r (now (main .exit)) (now (store .entry)) ≡ decided c s (now (main .entry)) (now (store .entry)) (firstOf (transferCauses reads s)) (read size c (cleared s) (now (main .entry)) (now (store .entry))) ⌝ }
+pub fn read(size: usize, c: Ccw, s: Running, main: &mut [u8], store: &[u8]) -> Done
+    requires { ⌜ Sized size c (now store) × Secure s (blockCount size (now store)) × (c .address + c .count ≤ length (now main)) ⌝ }
+    ensures { λ r. ⌜ ((u : Record) → outcome u c r (now (main .exit)) (now (store .entry)) ≡ outcomeOf c (decided c (stateOf u s) (now (main .entry)) (now (store .entry)) (firstOf (transferCauses reads (stateOf u s))) (read size c (cleared (stateOf u s)) (now (main .entry)) (now (store .entry))))) ⌝ }
 {
     let before = s.before;
     let l = s.located;
     if !after_locate(before) {
-        return refuse(s, 41);
+        return refuse(c, s, 41);
     }
     if !is_read(l.operation) {
-        return refuse(s, 42);
+        return refuse(c, s, 42);
     }
     let m = located_move(size, c, s, store);
     blocks_to(size, store, m.block, l.blocks, main, c.address, m.n);
-    read_done(size, s, m)
+    read_done(size, c, s, m)
 }
 
 // The record after a WRITE of so many blocks: those of a write and check are counted.
-fn written(operation: u8, blocks: usize, u: Record) -> Record
+fn written(operation: u32, blocks: usize, k: Counts) -> Counts
     requires { ⌜ blocks < 4294967296 ⌝ }
-    ensures { λ r. ⌜ r ≡ pick (eqb operation 5) (writtenCounted blocks u) u ⌝ }
+    ensures { λ r. ⌜ ((u : Record) → counted u r ≡ pick (eqb operation 5) (writtenCounted blocks (counted u k)) (counted u k)) ⌝ }
 {
     if operation == 5 {
-        return written_counted(blocks, u);
+        return written_counted(blocks, k);
     }
-    u
+    k
 }
 
 // The WRITE's answer and record, once its blocks are stored.
-fn write_done(size: usize, s: State, m: Move) -> Done
-    requires { ⌜ (1 ≤ size) × (size ≤ 65535) × (m .n < 65536) × (s .located .blocks < 4294967296) ⌝ }
-    ensures { λ r. ⌜ r ≡ writeDone size s (m .n) (m .can) ⌝ }
+fn write_done(size: usize, c: Ccw, s: Running, m: Move) -> Done
+    requires { ⌜ (1 ≤ size) × (size ≤ 65535) × (c .count < 65536) × (m .n ≤ c .count) × (s .located .blocks < 4294967296) ⌝ }
+    ensures { λ r. ⌜ ((u : Record) → reported u c r ≡ report c (writeDone size (stateOf u s) (m .n) (m .can))) ⌝ }
 {
     let l = s.located;
-    let u = written(l.operation, l.blocks, no_sense(s.unit));
-    let t = after(s, u, Before::Other);
-    ended(t, m.n, m.can, begun(size, m.n))
+    let k = written(l.operation, l.blocks, s.counts);
+    let t = after(s, k, Before::Other);
+    ended(c, t, m.n, m.can, begun(size, m.n))
 }
 
-pub fn write(size: usize, c: Ccw, s: State, main: &[u8], store: &mut [u8]) -> Done
-    requires { ⌜ Sized size c (now store) × Safe s (blockCount size (now store)) × (c .address + c .count ≤ length (now main)) ⌝ }
-    ensures { λ r. ⌜ out r (now (main .entry)) (now (store .exit)) ≡ decided c s (now (main .entry)) (now (store .entry)) (firstOf (transferCauses writes s)) (write size c (cleared s) (now (main .entry)) (now (store .entry))) ⌝ }
+pub fn write(size: usize, c: Ccw, s: Running, main: &[u8], store: &mut [u8]) -> Done
+    requires { ⌜ Sized size c (now store) × Secure s (blockCount size (now store)) × (c .address + c .count ≤ length (now main)) ⌝ }
+    ensures { λ r. ⌜ ((u : Record) → outcome u c r (now (main .entry)) (now (store .exit)) ≡ outcomeOf c (decided c (stateOf u s) (now (main .entry)) (now (store .entry)) (firstOf (transferCauses writes (stateOf u s))) (write size c (cleared (stateOf u s)) (now (main .entry)) (now (store .entry))))) ⌝ }
 {
     let before = s.before;
     let l = s.located;
     if !after_locate(before) {
-        return refuse(s, 41);
+        return refuse(c, s, 41);
     }
     if !is_write(l.operation) {
-        return refuse(s, 42);
+        return refuse(c, s, 42);
     }
     let m = located_move(size, c, s, store);
     let at = c.address;
     let end = at + m.n;
     blocks_into(size, store, m.block, l.blocks, &main[at..end]);
-    write_done(size, s, m)
+    write_done(size, c, s, m)
 }
 
 // The extent that READ IPL sets.
@@ -182,24 +183,24 @@ fn whole_device(blocks: usize) -> Extent
 }
 
 // The READ IPL's answer and record, once its bytes are moved.
-fn ipl_done(size: usize, s: State, n: usize, blocks: usize) -> Done
-    requires { ⌜ (1 ≤ blocks) × (blocks < 4294967296) ⌝ }
-    ensures { λ r. ⌜ r ≡ iplDone size s n blocks ⌝ }
+fn ipl_done(size: usize, c: Ccw, s: Running, n: usize, blocks: usize) -> Done
+    requires { ⌜ (1 ≤ blocks) × (blocks < 4294967296) × (c .count < 65536) × (n ≤ c .count) ⌝ }
+    ensures { λ r. ⌜ ((u : Record) → reported u c r ≡ report c (iplDone size (stateOf u s) n blocks)) ⌝ }
 {
-    let u = movement_counted(read_counted(1, no_sense(s.unit)));
-    let t = extent_set(s, u, whole_device(blocks), Before::ReadIpl);
-    ended(t, n, size, 1)
+    let k = movement_counted(read_counted(1, s.counts));
+    let t = extent_set(s, k, whole_device(blocks), Before::ReadIpl);
+    ended(c, t, n, size, 1)
 }
 
-pub fn read_ipl(size: usize, c: Ccw, s: State, main: &mut [u8], store: &[u8]) -> Done
+pub fn read_ipl(size: usize, c: Ccw, s: Running, main: &mut [u8], store: &[u8]) -> Done
     requires { ⌜ Sized size c (now store) × (1 ≤ blockCount size (now store)) × (c .address + c .count ≤ length (now main)) ⌝ }
-    ensures { λ r. ⌜ out r (now (main .exit)) (now (store .entry)) ≡ decided c s (now (main .entry)) (now (store .entry)) (firstOf (readIplCauses s)) (readIpl size c (cleared s) (now (main .entry)) (now (store .entry))) ⌝ }
+    ensures { λ r. ⌜ ((u : Record) → outcome u c r (now (main .exit)) (now (store .entry)) ≡ outcomeOf c (decided c (stateOf u s) (now (main .entry)) (now (store .entry)) (firstOf (readIplCauses (stateOf u s))) (readIpl size c (cleared (stateOf u s)) (now (main .entry)) (now (store .entry))))) ⌝ }
 {
     let before = s.before;
     if !none_or_ipl(before) {
-        return refuse(s, 40);
+        return refuse(c, s, 40);
     }
     let n = moves::least(c.count, size);
     blocks_to(size, store, 0, 1, main, c.address, n);
-    ipl_done(size, s, n, store.len() / size)
+    ipl_done(size, c, s, n, store.len() / size)
 }

@@ -1,28 +1,35 @@
 -- Laws of `run`: done, one more command, and the command that ends it. No contract cites this file.
 --     Underway         what holds between two turns of the loop; it begins so, goes on so, and ends in the run
 --     turned, turned-go   one turn of the code is `next`, and its answer to "go on" is `more`
-use Prim.Native.Nat.{ℕ, zero, suc, _+_, _-_, _*_, _/_, _≤_, _<_}
+--     answer-.., go-..    what is put, and said of "go on", where a command was refused, had a wrong length, or ended
+use Prim.Native.Nat.{ℕ, suc, _+_, _-_, _*_, _/_, _≤_, _<_}
 use mathlib.Core.Path.{_≡_, refl, sym, ap, _∙_}
 use mathlib.Core.Bool.{Bool, true, false}
 use mathlib.Core.List.{List}
-use lib.ListN.{length, take}
+use lib.ListN.{length, take, set}
 use native.Mathlib.Nat.{sub-zero}
 use native.Mathlib.Omega.{arith}
+use borrow.Author.Tests.{eq-eqb, ne-eqb}
+use Rattle.numbers.specs.Big.{bytes8}
 use Rattle.moves.specs.Parts.{put}
+use Rattle.moves.proofs.Laws.{put-second}
 use Rattle.model.specs.declared.ccw.Ccw.{Ccw}
-use Rattle.model.specs.declared.state.Done.{Done}
-use Rattle.model.specs.declared.state.State.{State}
+use Rattle.model.specs.declared.record.Record.{Record}
+use Rattle.model.specs.State.{State}
+use Rattle.model.specs.Names.{chain-command, INCORRECT-LENGTH}
 use Rattle.model.specs.Rules.{pick}
-use Rattle.model.specs.Lent.{ccwAt, blockCount}
-use Rattle.model.specs.Commands.{out, step}
-use Rattle.model.specs.Answer.{answerOf, goesOn}
+use Rattle.model.specs.Lent.{ccwAt, flag, blockCount}
+use Rattle.model.specs.Commands.{Out, step}
+use Rattle.model.specs.Answer.{answerOf}
 use Rattle.model.specs.Chain.{System, system, stepAt, next, more, run, called}
 use Rattle.model.specs.Safe.{Safe}
 use Rattle.model.proofs.Picks.{pick-true, pick-false}
 use Rattle.model.proofs.Lengths.{Going, next-going, some-block}
 use Rattle.model.proofs.Endings.{Callable}
+use Rattle.running.specs.Standing.{stateLeft}
+use Rattle.outcomes.specs.declared.Done.{Done}
+use Rattle.outcomes.specs.Report.{reported, report, Outcome, outcome, outcomeOf}
 use Rattle.chain.specs.Promises.{Runnable}
-use Rattle.channel.proofs.Tests.{answer-whole}
 
 pub run-done : (size : ℕ) (chain : List ℕ) (n i : ℕ) (y : System) → n ≡ 0 → run size chain n i y ≡ y
 unfolding run
@@ -84,16 +91,50 @@ pub underway-done : (size : ℕ) (chain main₀ store₀ answers₀ : List ℕ) 
 underway-done size chain main₀ store₀ answers₀ n s₀ main store answers s i u h = sym (run-done size chain (n - i) i (system s main store answers i) (omega arith)) ∙ u .same
 
 -- one turn is the definition's: the CCW, the step, the answer
-pub turned : (size : ℕ) (chain : List ℕ) (i : ℕ) (c : Ccw) (s : State) (main store answers main′ store′ answers′ a : List ℕ) (d : Done) (k : ℕ)
-    → c ≡ ccwAt chain i → out d main′ store′ ≡ step size c s main store → a ≡ answerOf c d → answers′ ≡ put answers (i * 8) (take 8 a)
-    → system (d .state) main′ store′ answers′ (i + 1) ≡ next size chain i (system s main store answers k)
-unfolding next stepAt
-turned size chain i c s main store answers main′ store′ answers′ a d k e f g h = rw (← e, ← f, h, g, answer-whole c d)
+module _ (size : ℕ) (chain : List ℕ) (i : ℕ) (c : Ccw) (s : State) (main store answers main′ store′ : List ℕ) (u : Record) (d : Done) (k : ℕ)
+    (e : c ≡ ccwAt chain i) (f : outcome u c d main′ store′ ≡ outcomeOf c (step size c s main store)) where
+  pub turned : (answers′ : List ℕ) → answers′ ≡ put answers (i * 8) (reported u c d .answer)
+      → system (stateLeft u (d .left)) main′ store′ answers′ (i + 1) ≡ next size chain i (system s main store answers k)
+  unfolding next stepAt reported report
+  turned answers′ h =
+      let o : Out = step size c s main store in
+      let state : stateLeft u (d .left) ≡ o .done .state = ap (λ (x : Outcome). x .report .state) f in
+      let answer : reported u c d .answer ≡ answerOf c (o .done) = ap (λ (x : Outcome). x .report .answer) f in
+      let front : main′ ≡ o .main = ap (λ (x : Outcome). x .main) f in
+      let back : store′ ≡ o .store = ap (λ (x : Outcome). x .store) f in
+      rw (← e, h, answer, state, front, back)
 
-pub turned-go : (size : ℕ) (chain : List ℕ) (i : ℕ) (c : Ccw) (s : State) (main store answers main′ store′ : List ℕ) (d : Done) (b : Bool) (k : ℕ)
-    → c ≡ ccwAt chain i → out d main′ store′ ≡ step size c s main store → b ≡ goesOn c d → b ≡ more size chain i (system s main store answers k)
-unfolding more stepAt
-turned-go size chain i c s main store answers main′ store′ d b k e f g = rw (← e, ← f) g
+  pub turned-go : (b : Bool) → b ≡ reported u c d .go → b ≡ more size chain i (system s main store answers k)
+  unfolding more stepAt reported report
+  turned-go b g = rw (← e) (g ∙ ap (λ (x : Outcome). x .report .go) f)
+
+-- the answer that was put, and whether the chain goes on
+module _ (answers : List ℕ) (at : ℕ) (u : Record) (c : Ccw) (d : Done) where
+  pub answer-refused : (d .left .cause ≡ 0 → ⊥) → put answers at (take 8 (bytes8 (d .answer))) ≡ put answers at (reported u c d .answer)
+  unfolding reported pick
+  answer-refused n = rw (ne-eqb _ _ n)
+
+  pub answer-wrong : d .left .cause ≡ 0 → d .wrong ≡ true → at ≤ length answers
+      → set (put answers at (take 8 (bytes8 (d .answer)))) (at + 1) INCORRECT-LENGTH ≡ put answers at (reported u c d .answer)
+  unfolding reported pick
+  answer-wrong e w h = rw (eq-eqb _ _ e, w) (put-second answers at _ _ _ INCORRECT-LENGTH h)
+
+  pub answer-ended : d .left .cause ≡ 0 → d .wrong ≡ false → put answers at (take 8 (bytes8 (d .answer))) ≡ put answers at (reported u c d .answer)
+  unfolding reported pick
+  answer-ended e w = rw (eq-eqb _ _ e, w)
+
+module _ (u : Record) (c : Ccw) (d : Done) where
+  pub go-refused : (d .left .cause ≡ 0 → ⊥) → false ≡ reported u c d .go
+  unfolding reported
+  go-refused n = rw (ne-eqb _ _ n)
+
+  pub go-wrong : d .left .cause ≡ 0 → d .wrong ≡ true → false ≡ reported u c d .go
+  unfolding reported
+  go-wrong e w = rw (eq-eqb _ _ e, w)
+
+  pub go-ended : (b : Bool) → d .left .cause ≡ 0 → d .wrong ≡ false → b ≡ flag c chain-command → b ≡ reported u c d .go
+  unfolding reported
+  go-ended b e w g = rw (eq-eqb _ _ e, w, g)
 
 -- a store that kept its length is as good
 pub runnable-same : (size : ℕ) (store store′ : List ℕ) → length store′ ≡ length store → Runnable size store → Runnable size store′

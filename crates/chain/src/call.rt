@@ -1,39 +1,32 @@
 // The call: refused as a whole by the first of causes 1 to 5 that holds, or the chain run from a fresh state.
+use crate::run::Walked;
 use crate::run::run_chain;
 use channel::causes::call_cause;
-use model::extent::Displacement;
-use model::extent::Extent;
-use model::extent::Located;
-use model::extent::Offset;
 use model::record::Record;
-use model::state::Before;
-use model::state::State;
+use running::record_left;
+use running::start;
 ghost use mathlib.Core.Path.{_≡_};
-ghost use Rattle.model.specs.Chain.{start, call};
+ghost use Rattle.model.specs.Rules.{firstOf};
+ghost use Rattle.model.specs.Causes.{callCauses};
+ghost use Rattle.model.specs.Chain.{call, classA};
+ghost use Rattle.running.specs.Standing.{stateLeft};
 
 // Class A: bytes of a block.
 pub const BLOCK_SIZE: usize = 512;
 
-// No extent, and no command before: nothing is kept from an earlier chain but the record.
-fn start(u: Record) -> State
-    ensures { λ r. ⌜ r ≡ start u ⌝ }
+// A call that no cause refuses.
+pub fn run_allowed(
+    u: Record,
+    chain: &[u8],
+    main: &mut [u8],
+    store: &mut [u8],
+    answers: &mut [u8],
+) -> Walked
+    requires { ⌜ firstOf (callCauses classA (now chain) (now main) (now store) (now answers)) ≡ 0 ⌝ }
+    ensures { λ r. ⌜ record { cause = 0; reached = r .reached; unit = stateLeft u (r .left) .unit; main = now (main .exit); store = now (store .exit); answers = now (answers .exit) } ≡ call (now (chain .entry)) (now (main .entry)) (now (store .entry)) u (now (answers .entry)) ⌝ }
 {
-    State {
-        unit: u,
-        defined: false,
-        extent: Extent {
-            mask: 0,
-            offset: Offset(0),
-            first: Displacement(0),
-            last: Displacement(0),
-        },
-        before: Before::Nothing,
-        located: Located {
-            operation: 0,
-            blocks: 0,
-            displacement: Displacement(0),
-        },
-    }
+    let s = start(u);
+    run_chain(BLOCK_SIZE, chain, u, s, main, store, answers)
 }
 
 // What a call gives by value.
@@ -60,12 +53,11 @@ pub fn call(
             unit: u,
         };
     }
-    let walked = run_chain(BLOCK_SIZE, chain, start(u), main, store, answers);
-    let s = walked.state;
-    let left = s.unit;
+    let walked = run_allowed(u, chain, main, store, answers);
+    let l = walked.left;
     Called {
         cause: 0,
         reached: walked.reached,
-        unit: left,
+        unit: record_left(u, l),
     }
 }

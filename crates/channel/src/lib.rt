@@ -1,4 +1,3 @@
-// What the channel does around a command: whether the call may begin, the CCW, the answer to it, and whether the chain goes on.
-pub mod answer;
+// What the channel does around a command: whether the call may begin, and the CCW.
 pub mod causes;
 pub mod ccw;

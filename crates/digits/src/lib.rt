@@ -1,7 +1,7 @@
 // Numbers and bytes as text, added to an output (`add`, `add_decimal`, `add_hex`) and read from an input (`is_decimal`, `is_hex`, `decode`).
 // What does not fit an output is left out: nothing is refused, and a caller need not know how long a text is.
 ghost use mathlib.Core.Path.{_≡_};
-ghost use Prim.Native.Nat.{_+_, _%_, _<_};
+ghost use Prim.Native.Nat.{_+_, _%_, _≤_, _<_};
 ghost use lib.ListN.{length};
 ghost use mathlib.Core.List.{[], _∷_};
 ghost use Rattle.digits.specs.Digits.{digit, decimal, hex, valueOf, isDigit, isHex, allDigits, bytesIn, same};
@@ -24,6 +24,7 @@ fn value_of(c: u8) -> u8
 
 // Adds a text at a place of the output, as far as it fits, and returns the place after it.
 pub fn add(out: &mut [u8], at: usize, text: &[u8]) -> usize
+    requires { ⌜ length (now text) ≤ 65536 ⌝ }
     ensures { λ r. ⌜ record { next = r; bytes = now (out .exit) } ≡ added (now (out .entry)) at (now (text .entry)) ⌝ }
 {
     if out.len() <= at {

@@ -1,21 +1,30 @@
--- What the stores of `pack` leave, one after the other, is what the definition says: `record-stored`. No contract cites this file.
+-- What the stores of `pack` leave, one after the other, is what the definition says.
+--     Arrays          what owning a record says of its arrays
+--     record-stored   the record's bytes
+-- No contract cites this file.
 use Prim.Native.Nat.{ℕ, _+_, _≤_}
 use mathlib.Core.Path.{_≡_, _∙_}
 use mathlib.Core.List.{List, [], _∷_, _++_, append-nil}
+use native.Mathlib.Nat.{le-of-eq}
 use native.Mathlib.Omega.{arith}
 use lib.ListN.{length, take, drop, set}
-use lib.Seq.{drop-length, sets-eq}
+use lib.Seq.{take-all, drop-length, sets-eq}
 use Rattle.moves.specs.Parts.{put}
 use Rattle.moves.proofs.Laws.{length-put-is, take-put}
 use Rattle.model.specs.declared.record.Record.{Record}
 use Rattle.model.specs.Lent.{recordBytes}
-use Rattle.records.proofs.Stores.{whole, Arrays}
+
+pub record Arrays (u : Record) : Type 0 where
+  pub sense : length (u .sense) ≡ 24
+  pub read : length (u .«blocks_read») ≡ 3
+  pub written : length (u .«blocks_written») ≡ 3
+  pub movements : length (u .movements) ≡ 2
 
 -- one store: the front that is done grows by the bytes that are put behind it
 grown : (d e : List ℕ) (at : ℕ) (bytes : List ℕ) (n : ℕ) → length d ≡ 34 → length bytes ≡ n → at + n ≤ 34 → e ≡ put d at (take n bytes)
     → (length e ≡ 34) × (take (at + n) e ≡ take at d ++ bytes)
 grown d e at bytes n k m h p =
-    let q : e ≡ put d at bytes = rw (p, whole bytes n m) in
+    let q : e ≡ put d at bytes = rw (p, take-all n bytes (le-of-eq m)) in
     (rw q (length-put-is 34 d at bytes k (omega arith)), rw q (take-put d at bytes n m (omega arith)))
 
 pub record-stored : (u : Record) (d₀ d₁ d₂ d₃ d₄ : List ℕ) → Arrays u → length d₀ ≡ 34

@@ -1,10 +1,9 @@
 -- A call reaches at most 32 commands, and what it gave is the outcome. No contract cites this file.
-use Prim.Native.Nat.{ℕ, _/_, _≤_}
-use mathlib.Core.Path.{_≡_, refl, sym, ap, _∙_}
+use Prim.Native.Nat.{ℕ, _≤_}
+use mathlib.Core.Path.{_≡_, refl, ap}
 use mathlib.Core.Bool.{Bool, true, false}
 use mathlib.Core.List.{List}
 use lib.Dec.{eqb}
-use lib.ListN.{length}
 use native.Mathlib.Omega.{arith}
 use borrow.Author.Tests.{eqb-true, eqb-false}
 use Rattle.model.specs.declared.record.Record.{Record}
@@ -14,7 +13,7 @@ use Rattle.model.specs.Chain.{Called, call}
 use Rattle.model.specs.Host.{resultOf}
 use Rattle.model.proofs.Refusals.{call-refused}
 use Rattle.model.proofs.Endings.{callable, call-reached}
-use Rattle.lent.specs.Run.{Outcome, given, outcome}
+use Rattle.lent.specs.Run.{given, outcome}
 
 few-reached : (chain main store : List ℕ) (u : Record) (answers : List ℕ) → call chain main store u answers .reached ≤ 32
 few-reached chain main store u answers = go (eqb (firstOf (callCauses 512 chain main store answers)) 0) refl

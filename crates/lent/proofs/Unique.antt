@@ -1,7 +1,7 @@
 -- A promise determines its result: two results that it allows are equal. One theorem for each form that a promise takes.
 --     same-by         a result that is named, `r ≡ f x`: most functions, and the call with every buffer in one record
 --     told-unique     a test that is true exactly where a fact holds
---     out-unique      a command's answer with the two storages, `out r main store ≡ ..`
+--     outcome-unique  a command's report with the two storages, `outcome u c r main store ≡ ..`: what the result stands for
 --     defined-unique, location-unique   an answer that is known by its number
 --     status-unique, channel-unique     a status that is known by its byte
 --     after-unique, made-unique         the run, by value and in place
@@ -11,19 +11,22 @@ use mathlib.Core.Path.{_≡_, refl, sym, ap, _∙_}
 use mathlib.Core.Bool.{Bool, true, false}
 use mathlib.Core.List.{List}
 use lib.Dec.{eqb}
+use Rattle.model.specs.declared.ccw.Ccw.{Ccw}
 use Rattle.model.specs.declared.record.Record.{Record}
-use Rattle.model.specs.declared.state.Done.{Done}
 use Rattle.model.specs.declared.status.Status.{Status}
 use Rattle.model.specs.declared.status.Channel.{Channel}
-use Rattle.model.specs.Commands.{Out, out}
 use Rattle.model.specs.Rules.{pick}
-use Rattle.parameters.specs.declared.define.Defined.{Defined}
-use Rattle.parameters.specs.declared.define.Defined.the-variants.{Taken, BadMask, Maintenance, BadSize, FirstAfterLast, PastDevice}
-use Rattle.parameters.specs.declared.locate.Location.{Location}
-use Rattle.parameters.specs.declared.locate.Location.the-variants.{Found, BadModifier, BadOperation, BadCount, BadReplication, OutsideExtent, Forbidden, ReadOnly, NoAlternate}
-use Rattle.parameters.specs.Answers.{definedNumber, locationNumber}
+use Rattle.extents.specs.declared.Defined.{Defined}
+use Rattle.extents.specs.declared.Defined.the-variants.{Taken, BadMask, Maintenance, BadSize, FirstAfterLast, PastDevice}
+use Rattle.locations.specs.declared.Location.{Location}
+use Rattle.locations.specs.declared.Location.the-variants.{Found, BadModifier, BadOperation, BadCount, BadReplication, OutsideExtent, Forbidden, ReadOnly, NoAlternate}
+use Rattle.extents.specs.Answers.{definedNumber}
+use Rattle.locations.specs.Answers.{locationNumber}
+use Rattle.outcomes.specs.declared.Done.{Done}
+use Rattle.outcomes.specs.Report.{reported, Outcome, outcome}
 use Rattle.lent.specs.declared.Ran.{Ran}
-use Rattle.lent.specs.Run.{Outcome, After, Made}
+use Rattle.lent.specs.Run as lending
+use Rattle.lent.specs.Run.{After, Made}
 
 pub same-by : {A : Type 0} (x y z : A) → x ≡ z → y ≡ z → x ≡ y
 same-by x y z p q = p ∙ sym q
@@ -34,15 +37,16 @@ told-unique P true false f g = sym (g .1 (f .0 refl))
 told-unique P false true f g = f .1 (g .0 refl)
 told-unique P false false f g = refl
 
-pub record SameOut (d e : Done) (main main′ store store′ : List ℕ) : Type 0 where
-  pub done-same : d ≡ e
+pub record SameOutcome (u : Record) (c : Ccw) (d e : Done) (main main′ store store′ : List ℕ) : Type 0 where
+  pub report-same : reported u c d ≡ reported u c e
   pub main-same : main ≡ main′
   pub store-same : store ≡ store′
 
-pub out-unique : (o : Out) (d e : Done) (main main′ store store′ : List ℕ) → out d main store ≡ o → out e main′ store′ ≡ o → SameOut d e main main′ store store′
-out-unique o d e main main′ store store′ p q =
+pub outcome-unique : (o : Outcome) (u : Record) (c : Ccw) (d e : Done) (main main′ store store′ : List ℕ)
+    → outcome u c d main store ≡ o → outcome u c e main′ store′ ≡ o → SameOutcome u c d e main main′ store store′
+outcome-unique o u c d e main main′ store store′ p q =
     let r = p ∙ sym q in
-    record { done-same = ap (λ (x : Out). x .done) r; main-same = ap (λ (x : Out). x .main) r; store-same = ap (λ (x : Out). x .store) r }
+    record { report-same = ap (λ (x : Outcome). x .report) r; main-same = ap (λ (x : Outcome). x .main) r; store-same = ap (λ (x : Outcome). x .store) r }
 
 pub status-unique : (n : ℕ) (a b : Status) → a .0 ≡ n → b .0 ≡ n → a ≡ b
 status-unique n a b p q = λ i. record { 0 = same-by (a .0) (b .0) n p q i }
@@ -98,11 +102,11 @@ pub after-unique : (r : Record) (chain m s a : List ℕ) (v w : Ran) (m₁ s₁ 
 after-unique r chain m s a v w m₁ s₁ a₁ m₂ s₂ a₂ p q =
     let e = p .is ∙ sym (q .is) in
     record {
-      unit-same = ap (λ (x : Outcome). x .unit) e;
-      code-same = ap (λ (x : Outcome). x .code) e;
-      storage-same = ap (λ (x : Outcome). x .storage) e;
-      store-same = ap (λ (x : Outcome). x .store) e;
-      answers-same = ap (λ (x : Outcome). x .answers) e;
+      unit-same = ap (λ (x : lending.Outcome). x .unit) e;
+      code-same = ap (λ (x : lending.Outcome). x .code) e;
+      storage-same = ap (λ (x : lending.Outcome). x .storage) e;
+      store-same = ap (λ (x : lending.Outcome). x .store) e;
+      answers-same = ap (λ (x : lending.Outcome). x .answers) e;
     }
 
 pub made-unique : (r : Record) (chain m s a : List ℕ) (c d : ℕ) (u v : Record) (m₁ s₁ a₁ m₂ s₂ a₂ : List ℕ)

@@ -14,21 +14,27 @@ use mathlib.Core.List.{List}
 use lib.ListN.{length, getD}
 use native.Mathlib.Omega.{arith}
 use Rattle.moves.specs.Parts.{part, put}
-use Rattle.moves.proofs.Laws.{length-put, get-before, get-in, get-after, by-place, part-same, part-apart}
+use Rattle.moves.proofs.Laws.{length-put, get-part, get-before, get-in, get-after, by-place, part-same, part-apart}
+use Rattle.model.specs.declared.ccw.Ccw.{Ccw}
 use Rattle.model.specs.declared.extent.Displacement.{Displacement}
 use Rattle.model.specs.declared.extent.Extent.{Extent}
 use Rattle.model.specs.declared.extent.Located.{Located}
 use Rattle.model.specs.declared.record.Record.{Record}
 use Rattle.model.specs.declared.state.Before.{Before}
-use Rattle.model.specs.declared.state.State.{State}
-use Rattle.model.specs.declared.state.Done.{Done}
-use Rattle.model.specs.Lent.{blockCount, blockAt, blocksFrom, blocksInto}
+use Rattle.model.specs.State.{State, Done}
+use Rattle.model.specs.Lent.{fetched, blockCount, blockAt, blocksFrom, blocksInto}
 use Rattle.model.specs.Parameters.{extentLength, extentIn, address}
 use Rattle.model.specs.Commands.{Out, after}
 use Rattle.model.specs.Safe.{InExtent}
 use Rattle.model.specs.Moved.{Among, SameBut, HasRoom, SameData, KeptOutside}
 use Rattle.model.proofs.Lengths.{blocks-into-length, in-store}
 use Rattle.model.proofs.Blocks.{blocks-from-same, block-kept, block-stored}
+
+-- a byte of the parameters that is none of the four
+pub parameter-same : (c : Ccw) (main main′ : List ℕ) → SameBut (c .address + 4) 4 main main′ → (i : ℕ) → i < extentLength → (Among 4 4 i → ⊥) → getD (fetched c main extentLength) i 0 ≡ getD (fetched c main′ extentLength) i 0
+unfolding fetched
+parameter-same c main main′ h i b n =
+    get-part main (c .address) extentLength i b ∙ h .same (c .address + i) (λ k. n (omega (arith, k), omega (arith, k))) ∙ sym (get-part main′ (c .address) extentLength i b)
 
 pub record Place : Type 0 where
   pub at : ℕ

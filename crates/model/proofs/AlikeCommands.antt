@@ -15,7 +15,7 @@ use borrow.Author.Tests.{eqb-true, ltb-false}
 use Rattle.moves.specs.Parts.{zeros}
 use Rattle.model.specs.declared.ccw.Ccw.{Ccw}
 use Rattle.model.specs.declared.record.Record.{Record}
-use Rattle.model.specs.declared.state.State.{State}
+use Rattle.model.specs.State.{State}
 use Rattle.model.specs.Names.{NO-OPERATION, DEFINE-EXTENT, LOCATE, READ, WRITE}
 use Rattle.model.specs.Rules.{_=?_, Rule, _when_, firstOf}
 use Rattle.model.specs.Lent.{fetched, delivered, blockCount, blocksFrom}

@@ -13,10 +13,9 @@ use mathlib.Core.List.{List, [], _∷_, _++_}
 use lib.ListN.{getD}
 use native.Mathlib.Omega.{arith}
 use borrow.Author.Tests.{eqb-true, eqb-false, ltb-false, lt-ltb}
-use Rattle.moves.proofs.Laws.{get-part}
 use Rattle.model.specs.declared.ccw.Ccw.{Ccw}
 use Rattle.model.specs.declared.extent.Extent.{Extent}
-use Rattle.model.specs.declared.state.State.{State}
+use Rattle.model.specs.State.{State}
 use Rattle.model.specs.Names.{DEFINE-EXTENT, LOCATE, READ-IPL}
 use Rattle.model.specs.Rules.{_<?_, Rule, _when_, firstOf}
 use Rattle.model.specs.Lent.{fetched, blockCount}
@@ -25,7 +24,7 @@ use Rattle.model.specs.Causes.{channelCauses, unitCauses, extentCauses, 
 use Rattle.model.specs.Moved.{Among}
 use Rattle.model.proofs.Picks.{pick-both}
 use Rattle.model.proofs.Verdicts.{Failed, first-same}
-use Rattle.model.proofs.Alike.{Place, Sound, States, Mains, Stores, sides, mains-part, count-same}
+use Rattle.model.proofs.Alike.{parameter-same, Place, Sound, States, Mains, Stores, sides, mains-part, count-same}
 
 pub record Fits (F : Place) (c : Ccw) : Type 0 where
   pub own : c .command ≡ DEFINE-EXTENT → c .address ≡ F .at
@@ -51,12 +50,7 @@ module _ (F : Place) (c : Ccw) (m m′ : List ℕ) (f : Fits F c) (g : Mains F m
   extent-there e = rw (f .own e) (g .there)
 
   byte-same : c .command ≡ DEFINE-EXTENT → (i : ℕ) → i < 4 → getD (fetched c m extentLength) i 0 ≡ getD (fetched c m′ extentLength) i 0
-  unfolding fetched
-  byte-same e i b =
-      let j : i < extentLength = omega arith in
-      get-part m (c .address) extentLength i j
-      ∙ rw (f .own e) (g .but .same (F .at + i) (λ k. omega (arith, k)))
-      ∙ sym (get-part m′ (c .address) extentLength i j)
+  byte-same e i b = parameter-same c m m′ (rw (f .own e) (g .but)) i (omega arith) (λ k. omega (arith, k))
 
   reserved-same : c .command ≡ DEFINE-EXTENT → reservedIn (fetched c m extentLength) ≡ reservedIn (fetched c m′ extentLength)
   unfolding reservedIn

@@ -1,8 +1,6 @@
 -- Blocks in a row are one part of the store, and blocks that are stored in turn are one put.
 --     blocks-from-part   what READ sees of n blocks
 --     get-blocks-from    a byte of those
---     blocks-into-none   nothing is to be stored
---     blocks-into-turn   block i of n is stored; those after it are still to be stored
 --     blocks-into-put    what WRITE leaves, with the bytes of all n blocks put at once
 --     get-blocks-into, get-blocks-before, get-blocks-after
 --                        a byte of those, and a byte of the blocks that WRITE does not reach
@@ -10,7 +8,7 @@
 --     block-stored, block-kept
 --                        a block that WRITE stores, and one that it does not reach
 -- No contract cites this file. Assumes nothing.
-use Prim.Native.Nat.{ℕ, zero, suc, _+_, _-_, _*_, _≤_, _<_}
+use Prim.Native.Nat.{ℕ, zero, suc, _+_, _*_, _≤_, _<_}
 use mathlib.Core.Path.{_≡_, refl, sym, _∙_}
 use mathlib.Core.Logic.{_⊎_, inl, inr}
 use mathlib.Core.List.{List}
@@ -32,19 +30,6 @@ blocks-from-part size store block (suc n) =
 
 pub get-blocks-from : (size : ℕ) (store : List ℕ) (block n i : ℕ) → i < n * size → getD (blocksFrom size store block n) i 0 ≡ getD store (block * size + i) 0
 get-blocks-from size store block n i h = rw blocks-from-part (get-part store (block * size) (n * size) i h)
-
-pub blocks-into-none : (size : ℕ) (store : List ℕ) (block : ℕ) (bytes : List ℕ) → blocksInto size store block 0 bytes ≡ store
-unfolding blocksInto
-blocks-into-none size store block bytes = refl
-
--- `left` is what is left of the bytes
-pub blocks-into-turn : (size : ℕ) (store stored : List ℕ) (block n i : ℕ) (bytes left : List ℕ)
-    → stored ≡ put store (blockStart size (block + i)) (pad size bytes) → left ≡ drop size bytes → i < n
-    → blocksInto size stored (block + (i + 1)) (n - (i + 1)) left ≡ blocksInto size store (block + i) (n - i) bytes
-unfolding blocksInto
-blocks-into-turn size store stored block n i bytes left e f h =
-    let more : n - i ≡ suc (n - (i + 1)) = omega arith in
-    rw (e, f, more, ← add-assoc)
 
 pub blocks-into-put : (size : ℕ) (store : List ℕ) (block n : ℕ) (bytes : List ℕ) → (block + n) * size ≤ length store
     → blocksInto size store block n bytes ≡ put store (block * size) (pad (n * size) bytes)

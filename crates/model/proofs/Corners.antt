@@ -9,7 +9,7 @@ use Rattle.model.specs.Rules.{firstOf}
 use Rattle.model.specs.Lent.{newRecord}
 use Rattle.model.specs.Causes.{callCauses}
 use Rattle.model.proofs.Opened.{opened}
-use Rattle.model.proofs.Inputs.{lent, device, ccw, extent, location, Line, got, wanted, causeOf}
+use Rattle.model.proofs.Inputs.{device, ccw, extent, location, Line, got, wanted, causeOf}
 
 -- one CCW on 24 bytes of main storage, to a unit that is ready (1) or not (0)
 abbrev alone : ℕ → List ℕ → ℕ → Line

@@ -8,7 +8,7 @@ use lib.ListN.{length}
 use native.Mathlib.Omega.{arith}
 use borrow.Author.Tests.{eqb-true, eqb-false, ltb-false, not-false}
 use Rattle.model.specs.declared.record.Record.{Record}
-use Rattle.model.specs.Rules.{pick, firstOf}
+use Rattle.model.specs.Rules.{firstOf}
 use Rattle.model.specs.Lent.{ccwSize, blockCount}
 use Rattle.model.specs.Causes.{callCauses}
 use Rattle.model.specs.Chain.{System, system, next, run, start, callOf}

@@ -4,36 +4,32 @@
 --     call-bytes    the call: all that was bytes stays so
 -- Assumes nothing.
 use Prim.Native.Nat.{ℕ, zero, suc, _+_, _-_, _*_, _/_, _≤_, _<_, min}
-use mathlib.Core.Path.{_≡_, refl, sym, ap, _∙_}
-use mathlib.Core.Bool.{Bool, true, false, not, _&&_}
+use mathlib.Core.Path.{_≡_, refl, _∙_}
+use mathlib.Core.Bool.{Bool, true, _&&_}
 use mathlib.Core.List.{List, [], _∷_, _++_, append-nil}
-use lib.ListN.{length, getD, take, drop}
+use lib.ListN.{length}
 use native.Mathlib.Nat.{mul-le-mul-left, div-lt-iff-lt-mul}
 use native.Mathlib.Omega.{arith}
-use borrow.Author.Tests.{eqb-true, eqb-false, ltb-true, ltb-false}
+use borrow.Author.Tests.{eqb-true, ltb-true, ltb-false}
 use Rattle.numbers.specs.Bytes.{AreBytes}
-use Rattle.numbers.specs.Big.{be2, be3, bytes2, bytes3}
 use Rattle.numbers.proofs.Bytes.{bytes-nil, bytes-cons, bytes-append, bytes-take, bytes-drop, bytes-tested}
-use Rattle.numbers.proofs.Big.{bytes2-are, bytes3-are, bytes2-hold, bytes3-hold, be2-fits}
-use Rattle.moves.specs.Parts.{zeros, part, put, pad}
+use Rattle.numbers.proofs.Big.{bytes2-are, bytes3-are}
+use Rattle.moves.specs.Parts.{zeros}
 use Rattle.moves.proofs.Laws.{length-zeros, length-part, length-put-is, bytes-zeros, bytes-part, bytes-put, bytes-pad}
 use Rattle.model.specs.declared.ccw.Ccw.{Ccw}
 use Rattle.model.specs.declared.record.Record.{Record}
-use Rattle.model.specs.declared.state.State.{State}
-use Rattle.model.specs.declared.state.Done.{Done}
-use Rattle.model.specs.Names.{NO-OPERATION, DEFINE-EXTENT, LOCATE, READ, WRITE, READ-IPL, format-at, parameters-at}
-use Rattle.model.specs.Rules.{_<?_, _=?_, pick, Rule, _when_, firstOf}
-use Rattle.model.specs.Lent.{ccwAt, fetched, delivered, blockStart, blockCount, blockAt, blocksFrom, blocksInto}
-use Rattle.model.specs.Parameters.{extentLength, locateLength, reads, writes}
+use Rattle.model.specs.State.{State}
+use Rattle.model.specs.Rules.{_<?_, _=?_, pick, Rule, firstOf}
+use Rattle.model.specs.Lent.{fetched, delivered, blockAt, blocksFrom, blocksInto}
+use Rattle.model.specs.Parameters.{locateLength}
 use Rattle.model.specs.Causes.{channelCauses, unitCauses, extentCauses, defineExtentCauses, permissionCauses, locationCauses, locateCauses, readIplCauses, transferCauses, ownCauses, causesOf, verdict}
 use Rattle.model.specs.Sense.{SenseRow, senseTable, rowIn, senseOf}
 use Rattle.model.specs.Log.{withSense, withCounts, added3, added2, readCounted, writtenCounted, movementCounted, logOf, logReset}
-use Rattle.model.specs.Commands.{Out, out, noOperation, defineExtent, locate, sent, sense, senseType, readLog, begun, read, write, readIpl, refused, refusal, seen, after, extentSet, locateSet, step}
-use Rattle.model.specs.Answer.{unitStatus, channelStatus, residual, answerOf}
+use Rattle.model.specs.Commands.{Out, noOperation, defineExtent, locate, sent, sense, senseType, readLog, begun, read, write, readIpl, refused, refusal, seen, after, extentSet, locateSet, step}
 use Rattle.model.proofs.Picks.{pick-ind}
 use Rattle.model.proofs.Verdicts.{absent, peel, never-given, both-true}
 use Rattle.model.proofs.Safety.{define-ok, locate-ok}
-use Rattle.model.proofs.Steps.{Admitted, past-channel, own-cases, Cases, step-cases}
+use Rattle.model.proofs.Steps.{past-channel, own-cases, Cases, step-cases}
 
 -- the unit record
 

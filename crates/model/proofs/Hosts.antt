@@ -57,6 +57,10 @@ module _ (size : ℕ) (chain main store unit answers : List ℕ) where
       (pick-ind (λ (r : Hosted). r ≡ hosted (callOf size chain main store (recordOf unit) answers)) _ _ _ (λ _. refl)
       (λ b. rw (call-refused size chain main store (recordOf unit) answers _ refl (eqb-false _ _ b), bytes-back unit e)))
 
+  pub host-call-refused : (w : ℕ) → firstOf (callCauses size chain main store answers) ≡ w → (w ≡ 0 → ⊥)
+      → hostCallOf size chain main store unit answers ≡ record { result = resultOf w 0; main = main; store = store; unit = unit; answers = answers }
+  host-call-refused w e n = host-refused size chain main store unit answers w (host-verdict ∙ rw e (pick-false _ _ _ (ne-eqb _ _ n))) n
+
   pub host-no-record : (w : ℕ) → (length unit ≡ recordSize → ⊥) → firstOf (callCauses size chain main store answers) ≡ w
       → hostCallOf size chain main store unit answers ≡ record { result = resultOf (pick (w =? 0) 6 w) 0; main = main; store = store; unit = unit; answers = answers }
   host-no-record w n e =

@@ -3,34 +3,30 @@
 --     IsLent         a unit record, and bytes, in a system
 --     call-bytes     a call that was lent a unit record and bytes gives back a unit record and bytes
 -- Assumes nothing.
-use Prim.Native.Nat.{ℕ, zero, suc, _+_, _-_, _*_, _/_, _≤_, _<_}
-use mathlib.Core.Path.{_≡_, refl, sym, ap, _∙_}
-use mathlib.Core.Bool.{Bool, true, false}
-use mathlib.Core.List.{List, [], _∷_, _++_}
+use Prim.Native.Nat.{ℕ, zero, suc, _+_, _-_, _/_, _≤_, _<_}
+use mathlib.Core.Path.{_≡_, refl}
+use mathlib.Core.List.{List}
 use lib.ListN.{length, getD}
 use native.Mathlib.Nat.{not-suc-le-zero, div-zero}
 use native.Mathlib.Omega.{arith}
 use borrow.Author.Tests.{eqb-true}
 use Rattle.numbers.specs.Bytes.{AreBytes}
-use Rattle.numbers.specs.Big.{be2, bytes2}
+use Rattle.numbers.specs.Big.{be2}
 use Rattle.numbers.proofs.Bytes.{bytes-nil, bytes-cons, bytes-append}
 use Rattle.numbers.proofs.Big.{bytes2-are, bytes2-hold, be2-fits}
-use Rattle.moves.specs.Parts.{put}
 use Rattle.moves.proofs.Laws.{bytes-put}
 use Rattle.model.specs.declared.ccw.Ccw.{Ccw}
 use Rattle.model.specs.declared.record.Record.{Record}
-use Rattle.model.specs.declared.state.State.{State}
-use Rattle.model.specs.declared.state.Done.{Done}
-use Rattle.model.specs.Rules.{pick, firstOf}
+use Rattle.model.specs.State.{Done}
+use Rattle.model.specs.Rules.{firstOf}
 use Rattle.model.specs.Lent.{ccwSize, ccwAt, blockCount}
 use Rattle.model.specs.Causes.{callCauses}
-use Rattle.model.specs.Commands.{step}
-use Rattle.model.specs.Answer.{unitStatus, channelStatus, residual, answerSize, answerOf}
+use Rattle.model.specs.Answer.{unitStatus, channelStatus, residual, answerOf}
 use Rattle.model.specs.Chain.{System, system, stepAt, next, run, start, Called, called, callOf}
 use Rattle.model.proofs.Picks.{pick-ind}
-use Rattle.model.proofs.Endings.{Callable, callable}
+use Rattle.model.proofs.Endings.{callable}
 use Rattle.model.proofs.Lengths.{some-block}
-use Rattle.model.proofs.Fields.{IsRecord, Fields, step-fields}
+use Rattle.model.proofs.Fields.{IsRecord, step-fields}
 
 -- an answer
 

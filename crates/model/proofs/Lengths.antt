@@ -4,24 +4,22 @@
 --     Going                                  what holds of a system between two commands of a chain
 --     call-lengths                           the call
 -- Assumes nothing.
-use Prim.Native.Nat.{ℕ, zero, suc, _+_, _-_, _*_, _/_, _%_, _≤_, _<_, min}
-use mathlib.Core.Path.{_≡_, refl, sym, ap, _∙_}
-use mathlib.Core.Bool.{Bool, true, false}
-use mathlib.Core.List.{List, [], _∷_, _++_}
-use lib.ListN.{length, take, drop, length-append, length-take}
+use Prim.Native.Nat.{ℕ, zero, suc, _+_, _*_, _/_, _%_, _≤_, _<_, min}
+use mathlib.Core.Path.{_≡_, refl, sym, _∙_}
+use mathlib.Core.List.{List}
+use lib.ListN.{length, take, drop, length-take}
 use native.Mathlib.Nat.{mul-zero, mul-le-mul-right, div-mul-le-self, div-add-mod}
 use native.Mathlib.Omega.{arith}
 use borrow.Author.Tests.{eqb-true}
-use Rattle.moves.specs.Parts.{put, pad}
+use Rattle.moves.specs.Parts.{pad}
 use Rattle.moves.proofs.Laws.{length-put, length-pad}
 use Rattle.model.specs.declared.ccw.Ccw.{Ccw}
 use Rattle.model.specs.declared.record.Record.{Record}
-use Rattle.model.specs.declared.state.State.{State}
-use Rattle.model.specs.declared.state.Done.{Done}
+use Rattle.model.specs.State.{State, Done}
 use Rattle.model.specs.Names.{NO-OPERATION}
-use Rattle.model.specs.Rules.{pick, firstOf}
-use Rattle.model.specs.Lent.{ccwSize, ccwAt, fetched, delivered, blockStart, blockCount, blocksInto}
-use Rattle.model.specs.Parameters.{address, reads, writes}
+use Rattle.model.specs.Rules.{firstOf}
+use Rattle.model.specs.Lent.{ccwSize, ccwAt, delivered, blockStart, blockCount, blocksInto}
+use Rattle.model.specs.Parameters.{address, writes}
 use Rattle.model.specs.Causes.{callCauses}
 use Rattle.model.specs.Commands.{Out, out, noOperation, defineExtent, locate, sent, sense, senseType, readLog, read, write, readIpl, refused, refusal, seen, after, step}
 use Rattle.model.specs.Answer.{answerSize, answerOf}
@@ -29,7 +27,7 @@ use Rattle.model.specs.Chain.{System, system, stepAt, next, run, start, 
 use Rattle.model.specs.Safe.{Safe}
 use Rattle.model.proofs.Picks.{pick-ind}
 use Rattle.model.proofs.Steps.{Admitted, Cases, step-cases}
-use Rattle.model.proofs.Endings.{Callable, callable}
+use Rattle.model.proofs.Endings.{callable}
 use Rattle.model.proofs.Safety.{on-device, after-locate, safe-start, step-safe}
 
 pub blocks-into-length : (size : ℕ) (store : List ℕ) (block n : ℕ) (bytes : List ℕ) → (block + n) * size ≤ length store → length (blocksInto size store block n bytes) ≡ length store

@@ -13,10 +13,10 @@ use mathlib.Core.List.{List}
 use lib.ListN.{length, getD}
 use native.Mathlib.Omega.{arith}
 use borrow.Author.Tests.{eqb-true, eqb-false}
-use Rattle.moves.proofs.Laws.{by-place, get-part}
+use Rattle.moves.proofs.Laws.{by-place}
 use Rattle.model.specs.declared.ccw.Ccw.{Ccw}
 use Rattle.model.specs.declared.record.Record.{Record}
-use Rattle.model.specs.declared.state.Done.{Done}
+use Rattle.model.specs.State.{Done}
 use Rattle.model.specs.Names.{chain-command}
 use Rattle.model.specs.Rules.{_=?_, firstOf}
 use Rattle.model.specs.Lent.{ccwSize, ccwAt, flag, fetched, blockCount, recordSize, recordBytes, recordOf}
@@ -26,12 +26,12 @@ use Rattle.model.specs.Answer.{wrongLength, channelStatus, residual, ans
 use Rattle.model.specs.Chain.{System, system, stepAt, next, more, run, start, callOf}
 use Rattle.model.specs.Host.{hostCallOf}
 use Rattle.model.specs.Safe.{Safe}
-use Rattle.model.specs.Moved.{InChain, Among, extentAt, SameBut, Moved, SameAfter, SameHosted}
+use Rattle.model.specs.Moved.{InChain, Among, extentAt, Moved, SameAfter, SameHosted}
 use Rattle.model.proofs.Picks.{pick-both}
 use Rattle.model.proofs.Verdicts.{both-true}
 use Rattle.model.proofs.Safety.{safe-start, step-safe}
 use Rattle.model.proofs.Hosts.{host-is-call, host-no-record}
-use Rattle.model.proofs.Alike.{Place, Sound, States, Mains, Stores, Dones, Outs, count-same}
+use Rattle.model.proofs.Alike.{parameter-same, Place, Sound, States, Mains, Stores, Dones, Outs, count-same}
 use Rattle.model.proofs.AlikeVerdicts.{Fits}
 use Rattle.model.proofs.AlikeCommands.{step-alike}
 
@@ -107,11 +107,6 @@ module _ (size : ℕ) (F : Place) (k : Sound size F) (chain : List ℕ) (fits : 
       (λ _. b))
 
 -- the start
-
-parameter-same : (c : Ccw) (main main′ : List ℕ) → SameBut (c .address + 4) 4 main main′ → (i : ℕ) → i < extentLength → (Among 4 4 i → ⊥) → getD (fetched c main extentLength) i 0 ≡ getD (fetched c main′ extentLength) i 0
-unfolding fetched
-parameter-same c main main′ h i b n =
-    get-part main (c .address) extentLength i b ∙ h .same (c .address + i) (λ k. n (omega (arith, k), omega (arith, k))) ∙ sym (get-part main′ (c .address) extentLength i b)
 
 -- what the two runs are about
 place : (c : Ccw) (main main′ store store′ : List ℕ) → Place

@@ -2,7 +2,7 @@
 --     record-bytes-length, record-bytes, record-of   34 bytes hold a unit record, and a unit record has 34 bytes
 --     record-back, bytes-back                        nothing is lost on either way
 -- No contract cites this file.
-use Prim.Native.Nat.{ℕ, suc, _+_, _≤_, _<_}
+use Prim.Native.Nat.{ℕ, _+_}
 use mathlib.Core.Path.{_≡_, refl, sym, ap, _∙_}
 use mathlib.Core.List.{List, [], _∷_, _++_, append-assoc}
 use lib.ListN.{length, getD, drop, length-append, take-append-drop, drop-of-length-le}

@@ -6,24 +6,24 @@
 --                       alone; where it is a program check, nothing
 -- Assumes nothing.
 use Prim.Native.Nat.{ℕ, _/_}
-use mathlib.Core.Path.{_≡_, refl, sym, ap, _∙_}
-use mathlib.Core.Bool.{Bool, true, false}
+use mathlib.Core.Path.{_≡_, refl}
+use mathlib.Core.Bool.{true, false}
 use mathlib.Core.List.{List}
 use lib.ListN.{length}
-use borrow.Author.Tests.{eqb-true, ne-eqb}
+use borrow.Author.Tests.{ne-eqb}
 use Rattle.model.specs.declared.ccw.Ccw.{Ccw}
 use Rattle.model.specs.declared.record.Record.{Record}
 use Rattle.model.specs.declared.state.Before.the-variants.{Other}
-use Rattle.model.specs.declared.state.State.{State}
-use Rattle.model.specs.Rules.{_=?_, pick, firstOf}
-use Rattle.model.specs.Lent.{ccwSize, fetched}
-use Rattle.model.specs.Causes.{callCauses, hostCauses, programCheck, verdict}
+use Rattle.model.specs.State.{State}
+use Rattle.model.specs.Rules.{pick, firstOf}
+use Rattle.model.specs.Lent.{ccwSize}
+use Rattle.model.specs.Causes.{callCauses, hostCauses, programCheck}
 use Rattle.model.specs.Sense.{senseOf}
 use Rattle.model.specs.Log.{withSense}
 use Rattle.model.specs.Commands.{Out, after, refused, refusal, step, sent, noOperation, defineExtent, locate, read, write, readIpl, sense, senseType, readLog}
-use Rattle.model.specs.Chain.{Called, called, callOf, start, system, run}
-use Rattle.model.specs.Host.{Hosted, resultOf, hostCallOf}
-use Rattle.model.proofs.Picks.{pick-ind, pick-true, pick-false}
+use Rattle.model.specs.Chain.{called, callOf, start, system, run}
+use Rattle.model.specs.Host.{resultOf, hostCallOf}
+use Rattle.model.proofs.Picks.{pick-ind, pick-true}
 use Rattle.model.proofs.Steps.{Cases, step-cases}
 
 -- the call

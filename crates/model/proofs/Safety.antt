@@ -3,27 +3,26 @@
 --     step-safe            a command leaves a safe state
 --     on-device            the blocks of the LOCATE before are blocks of the device
 -- No contract cites this file.
-use Prim.Native.Nat.{ℕ, _+_, _-_, _≤_, _<_}
-use mathlib.Core.Path.{_≡_, refl, sym, ap, _∙_}
-use mathlib.Core.Bool.{Bool, true, false, not, false≢true}
+use Prim.Native.Nat.{ℕ, _+_, _≤_, _<_}
+use mathlib.Core.Path.{_≡_, refl, sym, _∙_}
+use mathlib.Core.Bool.{Bool, true, false, false≢true}
 use mathlib.Core.List.{List}
 use native.Mathlib.Omega.{arith}
-use borrow.Author.Tests.{eqb-true, eqb-false, eq-eqb, ltb-true, ltb-false, not-false}
+use borrow.Author.Tests.{eqb-false, ltb-true, ltb-false, not-false}
 use Rattle.model.specs.declared.ccw.Ccw.{Ccw}
 use Rattle.model.specs.declared.extent.Extent.{Extent}
 use Rattle.model.specs.declared.extent.Located.{Located}
 use Rattle.model.specs.declared.record.Record.{Record}
 use Rattle.model.specs.declared.state.Before.{Before}
-use Rattle.model.specs.declared.state.State.{State}
-use Rattle.model.specs.Names.{read-replicated}
-use Rattle.model.specs.Rules.{_<?_, pick}
-use Rattle.model.specs.Lent.{fetched, blockCount}
-use Rattle.model.specs.Parameters.{extentLength, extentIn, locateLength, locatedIn, replicationIn, processed, address, outside}
+use Rattle.model.specs.State.{State}
+use Rattle.model.specs.Rules.{_<?_}
+use Rattle.model.specs.Lent.{blockCount}
+use Rattle.model.specs.Parameters.{extentLength, extentIn, locateLength, locatedIn, processed, address, outside}
 use Rattle.model.specs.Causes.{extentCauses, defineExtentCauses, permissionCauses, locationCauses, locateCauses, transferCauses, a-locate}
-use Rattle.model.specs.Commands.{Out, after, extentSet, locateSet, noOperation, defineExtent, locate, sent, sense, senseType, readLog, read, write, wholeDevice, readIpl, refused, refusal, seen, step}
+use Rattle.model.specs.Commands.{after, extentSet, locateSet, noOperation, defineExtent, locate, sent, sense, senseType, readLog, read, write, wholeDevice, readIpl, refused, refusal, seen, step}
 use Rattle.model.specs.Safe.{OnDevice, InExtent, Safe}
 use Rattle.model.specs.Chain.{start}
-use Rattle.model.proofs.Picks.{pick-ind, pick-true, pick-false}
+use Rattle.model.proofs.Picks.{pick-ind}
 use Rattle.model.proofs.Verdicts.{Failed, either-false, both-false}
 use Rattle.model.proofs.Steps.{Cases, step-cases}
 

@@ -10,13 +10,13 @@ use mathlib.Core.Path.{_≡_, refl, sym, ap, _∙_}
 use mathlib.Core.Bool.{Bool, true, false, not, _&&_, false≢true}
 use mathlib.Core.List.{List, [], _∷_, _++_}
 use lib.Dec.{eqb}
-use lib.ListN.{length, replicate}
+use lib.ListN.{replicate}
 use borrow.Author.Tests.{eq-eqb, not-true}
 use Rattle.moves.specs.Parts.{put}
 use Rattle.model.specs.Names.{NO-OPERATION, SENSE-TYPE}
 use Rattle.model.specs.Lent.{recordBytes}
 use Rattle.model.specs.Log.{movementCounted}
-use Rattle.model.specs.Chain.{System, system, run, start, Called, called, classA}
+use Rattle.model.specs.Chain.{system, run, start, Called, classA}
 use Rattle.model.proofs.Verdicts.{both-true}
 use Rattle.model.proofs.Opened.{opened}
 use Rattle.model.proofs.Inputs.{Lent, lent, theUnit, ccw}

@@ -6,7 +6,7 @@ use mathlib.Core.Bool.{Bool, not, _&&_}
 use mathlib.Core.List.{List, [], _∷_, _++_}
 use Rattle.numbers.specs.Big.{bytes2}
 use Rattle.model.specs.declared.ccw.Ccw.{Ccw}
-use Rattle.model.specs.declared.state.Done.{Done}
+use Rattle.model.specs.State.{Done}
 use Rattle.model.specs.Names.{NO-OPERATION, chain-command, suppress-length, ENDED, UNIT-CHECKED, PROGRAM-CHECK, INCORRECT-LENGTH}
 use Rattle.model.specs.Rules.{_=?_, pick}
 use Rattle.model.specs.Lent.{flag}

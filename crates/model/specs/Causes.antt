@@ -18,7 +18,7 @@ use Rattle.model.specs.declared.ccw.Ccw.{Ccw}
 use Rattle.model.specs.declared.extent.Located.{Located}
 use Rattle.model.specs.declared.state.Before.{Before}
 use Rattle.model.specs.declared.state.Before.the-variants.{Nothing, ReadIpl, Locate, Other}
-use Rattle.model.specs.declared.state.State.{State}
+use Rattle.model.specs.State.{State}
 use Rattle.model.specs.Names.{NO-OPERATION, DEFINE-EXTENT, LOCATE, READ, WRITE, READ-IPL, SENSE, SENSE-TYPE, READ-LOG, chain-command, format, read-replicated}
 use Rattle.model.specs.Rules.{_<?_, _=?_, pick, oneOf, Rule, _when_, firstOf}
 use Rattle.model.specs.Lent.{ccwSize, ccwAt, flag, fetched, blockCount, recordSize}

@@ -9,11 +9,9 @@ use mathlib.Core.Bool.{Bool, false}
 use mathlib.Core.List.{List}
 use lib.ListN.{length}
 use Rattle.moves.specs.Parts.{put}
-use Rattle.model.specs.declared.extent.Extent.{Extent}
-use Rattle.model.specs.declared.extent.Located.{Located}
 use Rattle.model.specs.declared.record.Record.{Record}
 use Rattle.model.specs.declared.state.Before.the-variants.{Nothing}
-use Rattle.model.specs.declared.state.State.{State}
+use Rattle.model.specs.State.{State}
 use Rattle.model.specs.Rules.{_=?_, pick, firstOf}
 use Rattle.model.specs.Lent.{ccwSize, ccwAt}
 use Rattle.model.specs.Causes.{callCauses}

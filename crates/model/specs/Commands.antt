@@ -7,7 +7,7 @@
 --     step       one command: refused by the first of its causes that holds, or else accepted
 -- `size` is the block size of the device. Assumes nothing.
 use Prim.Native.Nat.{ℕ, _+_, _-_, _*_, _/_, min}
-use mathlib.Core.Bool.{Bool, true, false}
+use mathlib.Core.Bool.{true}
 use mathlib.Core.List.{List, [], _∷_}
 use lib.ListN.{take}
 use Rattle.moves.specs.Parts.{zeros}
@@ -16,9 +16,8 @@ use Rattle.model.specs.declared.extent.Extent.{Extent}
 use Rattle.model.specs.declared.extent.Located.{Located}
 use Rattle.model.specs.declared.record.Record.{Record}
 use Rattle.model.specs.declared.state.Before.{Before}
-use Rattle.model.specs.declared.state.Before.the-variants.{Nothing, ReadIpl, Locate, Other}
-use Rattle.model.specs.declared.state.State.{State}
-use Rattle.model.specs.declared.state.Done.{Done}
+use Rattle.model.specs.declared.state.Before.the-variants.{ReadIpl, Locate, Other}
+use Rattle.model.specs.State.{State, Done}
 use Rattle.model.specs.Names.{NO-OPERATION, DEFINE-EXTENT, LOCATE, READ, WRITE, READ-IPL, SENSE, SENSE-TYPE, write-check}
 use Rattle.model.specs.Rules.{_=?_, pick, oneOf}
 use Rattle.model.specs.Lent.{fetched, delivered, blockCount, blocksFrom, blocksInto}

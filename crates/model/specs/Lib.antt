@@ -1,6 +1,7 @@
 pub mod Names
 pub mod Rules
 pub mod Lent
+pub mod State
 pub mod Parameters
 pub mod Causes
 pub mod Sense

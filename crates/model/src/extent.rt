@@ -10,7 +10,7 @@ pub struct Offset(pub u32);
 pub struct Displacement(pub u32);
 
 pub struct Extent {
-    pub mask: u8,
+    pub mask: u32,
     pub offset: Offset,
     pub first: Displacement,
     pub last: Displacement,
@@ -28,7 +28,7 @@ impl Extent {
 }
 
 pub struct Located {
-    pub operation: u8,
-    pub blocks: usize,
+    pub operation: u32,
     pub displacement: Displacement,
+    pub blocks: usize,
 }

@@ -7,3 +7,10 @@ pub struct Record {
     pub ready: u8,
     pub read_only: u8,
 }
+
+// Its counts.
+pub struct Counts {
+    pub blocks_read: [u8; 3],
+    pub blocks_written: [u8; 3],
+    pub movements: [u8; 2],
+}

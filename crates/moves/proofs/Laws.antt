@@ -3,14 +3,14 @@
 use Prim.Native.Nat.{ℕ, zero, suc, _+_, _-_, _≤_, _<_, min}
 use native.Mathlib.Nat.{zero-add, add-zero, suc-add, add-assoc, zero-min, min-zero, suc-min-suc, sub-zero, zero-sub, suc-sub-suc}
 use mathlib.Core.Path.{_≡_, refl, sym, ap, _∙_}
-use mathlib.Core.Logic.{_⊎_, inl, inr, ⊎-elim}
+use mathlib.Core.Logic.{_⊎_, ⊎-elim}
 use mathlib.Core.Bool.{Bool, true, false}
 use mathlib.Core.List.{List, [], _∷_, _++_, append-assoc, append-nil}
 use native.Mathlib.Numerals.{add-one}
 use native.Mathlib.Omega.{arith}
 use lib.Dec.{ltb}
-use lib.ListN.{length, getD, set, take, drop, replicate, length-append, length-take, length-drop, length-replicate, take-append-drop, drop-of-length-le, List·getD-append}
-use lib.Seq.{ext-getD, length-take-le, take-length, take-all, drop-nil, drop-length, drop-drop, drop-cons, drop-append-le, take-add, take-at, drop-at, getD-take, getD-drop, getD-append-add}
+use lib.ListN.{length, getD, set, take, drop, length-append, length-take, length-drop, length-replicate, take-append-drop, drop-of-length-le, List·getD-append}
+use lib.Seq.{ext-getD, set-append-seam, length-take-le, take-length, take-all, drop-nil, drop-length, drop-drop, drop-cons, drop-append-le, take-add, take-at, drop-at, getD-take, getD-drop, getD-append-add}
 use borrow.Author.Fill.{fill-more}
 use borrow.Author.Tests.{ltb-true, ltb-false}
 use borrow.Rule.Slice.PartMut.{midOf, putMid, mid-len, post-is}
@@ -238,11 +238,6 @@ put-lent-filled l bytes back at n e h =
     let filled : back ≡ pad n bytes = rw long at e in
     put-lent-whole l back at n (rw (filled, long) (length-pad n bytes)) h ∙ ap (put l at) filled
 
--- the first n bytes of what `&l[at..]` lends
-pub part-lent-tail : (l : List ℕ) (at n : ℕ) → take n (midOf at (length l - at) l) ≡ part l at n
-unfolding part
-part-lent-tail l at n = rw rest-lent
-
 -- bytes that fit are copied, and the rest is cleared
 
 pub take-fits : (n : ℕ) (l : List ℕ) → take (min n (length l)) l ≡ take n l
@@ -303,3 +298,13 @@ pub put-copy : (n : ℕ) (l bytes : List ℕ) → length l ≡ n → length byte
 put-copy n l bytes e f =
     let whole : take n bytes ≡ bytes = take-all n bytes (omega (arith, f)) in
     rw whole (put-all l bytes (f ∙ sym e))
+
+-- bytes that were put, with the second of them put again
+pub put-second : (l : List ℕ) (at a b : ℕ) (more : List ℕ) (c : ℕ) → at ≤ length l → set (put l at (a ∷ b ∷ more)) (at + 1) c ≡ put l at (a ∷ c ∷ more)
+unfolding put
+put-second l at a b more c h =
+    let front = take at l ++ (a ∷ []) in
+    let back = more ++ drop (at + length (a ∷ b ∷ more)) l in
+    let long : length front ≡ at + 1 = rw (length-append, length-take-le at l h) refl in
+    let split : (d : ℕ) → take at l ++ (a ∷ d ∷ more) ++ drop (at + length (a ∷ b ∷ more)) l ≡ front ++ d ∷ back = λ d. rw (append-assoc, append-assoc) refl in
+    rw (split b, ← long, set-append-seam front b back c) (sym (split c))

@@ -20,31 +20,18 @@ fn each(from: &[u8], to: &mut [u8], k: usize)
     bytes::copy(&from[..k], to);
 }
 
-// What is carried at a time.
-const HELD: usize = 4096;
+// The most that a copy moves: a count has 16 bits.
+const HELD: usize = 65536;
 
-// The same by way of a local. LLVM is not told that `from` and `to` lie apart, but sees that a local lies apart from both:
-// either `each` is a memcpy then, the two are one memmove from `from` to `to`, and nothing is held when the code runs.
-fn carry(from: &[u8], to: &mut [u8], k: usize)
-    requires { ⌜ (k ≤ length (now from)) × (k ≤ length (now to)) × (k ≤ 4096) ⌝ }
-    ensures { λ _. ⌜ now (to .exit) ≡ put (now (to .entry)) 0 (take k (now (from .entry))) ⌝ }
-{
-    let mut held = [0u8; HELD];
-    each(from, &mut held, k);
-    each(&held, to, k);
-}
-
-// The first n bytes of `from` go to the front of `to`.
+// The first n bytes of `from` go to the front of `to`, by way of a local. LLVM is not told that `from` and `to` lie apart, but
+// sees that a local lies apart from both: either `each` is a memcpy then, the two are one memmove, and nothing is held when the code runs.
 pub fn copy(from: &[u8], to: &mut [u8], n: usize)
-    requires { ⌜ (n ≤ length (now from)) × (n ≤ length (now to)) ⌝ }
+    requires { ⌜ (n ≤ length (now from)) × (n ≤ length (now to)) × (n ≤ 65536) ⌝ }
     ensures { λ _. ⌜ now (to .exit) ≡ put (now (to .entry)) 0 (take n (now (from .entry))) ⌝ }
 {
-    let mut at = 0;
-    while at < n {
-        let m = least(HELD, n - at);
-        carry(&from[at..], &mut to[at..], m);
-        at += m;
-    }
+    let mut held = [0u8; HELD];
+    each(from, &mut held, n);
+    each(&held, to, n);
 }
 
 // Zero in every byte.
@@ -58,6 +45,7 @@ pub fn clear(to: &mut [u8])
 
 // The block holds the bytes of `from` that it has room for, and then zeros.
 pub fn fill(block: &mut [u8], from: &[u8])
+    requires { ⌜ length (now from) ≤ 65536 ⌝ }
     ensures { λ _. ⌜ now (block .exit) ≡ pad (length (now (block .entry))) (now (from .entry)) ⌝ }
 {
     let n = least(block.len(), from.len());
@@ -67,7 +55,7 @@ pub fn fill(block: &mut [u8], from: &[u8])
 
 // The first n bytes of `from` go to `to`, from `at` on.
 pub fn put_at(to: &mut [u8], at: usize, from: &[u8], n: usize)
-    requires { ⌜ (at + n ≤ length (now to)) × (n ≤ length (now from)) ⌝ }
+    requires { ⌜ (at + n ≤ length (now to)) × (n ≤ length (now from)) × (n ≤ 65536) ⌝ }
     ensures { λ _. ⌜ now (to .exit) ≡ put (now (to .entry)) at (take n (now (from .entry))) ⌝ }
 {
     copy(from, &mut to[at..], n);

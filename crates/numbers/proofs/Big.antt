@@ -1,6 +1,6 @@
 -- Laws of big-endian numbers: the bytes of a number are bytes, and hold it; a number in bytes fits its width.
 -- No contract cites this file.
-use Prim.Native.Nat.{ℕ, _+_, _*_, _/_, _%_, _<_}
+use Prim.Native.Nat.{ℕ, _+_, _<_}
 use mathlib.Core.Path.{_≡_}
 use mathlib.Core.List.{List}
 use native.Mathlib.Omega.{arith}

@@ -1,1 +1,3 @@
 pub mod Deciding
+pub mod Answers
+pub mod Reports

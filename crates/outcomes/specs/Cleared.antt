@@ -2,7 +2,7 @@
 --     cleared      the state with no sense, as every command but NO-OPERATION and SENSE begins (01: "zeroes the pending sense")
 -- Assumes nothing.
 use Rattle.moves.specs.Parts.{zeros}
-use Rattle.model.specs.declared.state.State.{State}
+use Rattle.model.specs.State.{State}
 use Rattle.model.specs.Log.{withSense}
 use Rattle.model.specs.Commands.{after}
 

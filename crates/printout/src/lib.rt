@@ -15,6 +15,7 @@ const ANSWER: usize = 8;
 
 // A line with a number.
 fn number_line(out: &mut [u8], at: usize, key: &[u8], n: usize) -> usize
+    requires { ⌜ length (now key) ≤ 65536 ⌝ }
     ensures { λ r. ⌜ record { next = r; bytes = now (out .exit) } ≡ added (now (out .entry)) at (line (now (key .entry)) (decimal n)) ⌝ }
 {
     let keyed = add(out, at, key);
@@ -24,6 +25,7 @@ fn number_line(out: &mut [u8], at: usize, key: &[u8], n: usize) -> usize
 
 // A line with bytes.
 fn bytes_line(out: &mut [u8], at: usize, key: &[u8], bytes: &[u8]) -> usize
+    requires { ⌜ length (now key) ≤ 65536 ⌝ }
     ensures { λ r. ⌜ record { next = r; bytes = now (out .exit) } ≡ added (now (out .entry)) at (line (now (key .entry)) (hex (now (bytes .entry)))) ⌝ }
 {
     let keyed = add(out, at, key);

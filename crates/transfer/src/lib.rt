@@ -17,7 +17,7 @@ pub fn begun(size: usize, n: usize) -> usize
 
 // One block holds the bytes that it has room for, and then zeros.
 fn block_into(size: usize, store: &mut [u8], block: usize, bytes: &[u8])
-    requires { ⌜ (block + 1) * size ≤ length (now store) ⌝ }
+    requires { ⌜ ((block + 1) * size ≤ length (now store)) × (length (now bytes) ≤ 65536) ⌝ }
     ensures { λ _. ⌜ now (store .exit) ≡ put (now (store .entry)) (blockStart size block) (pad size (now (bytes .entry))) ⌝ }
 {
     let start = block * size;
@@ -25,17 +25,19 @@ fn block_into(size: usize, store: &mut [u8], block: usize, bytes: &[u8])
     moves::fill(&mut store[start..end], bytes);
 }
 
-// The n blocks from `block` on hold the bytes in turn, and zeros where they run out. `rest` is what no block holds yet.
+// The n blocks from `block` on hold the bytes in turn, and zeros where they run out: the first, then the rest as one area.
 pub fn blocks_into(size: usize, store: &mut [u8], block: usize, n: usize, bytes: &[u8])
-    requires { ⌜ (1 ≤ size) × ((block + n) * size ≤ length (now store)) ⌝ }
+    requires { ⌜ (1 ≤ size) × (1 ≤ n) × ((block + n) * size ≤ length (now store)) × (length (now bytes) ≤ 65536) ⌝ }
     ensures { λ _. ⌜ now (store .exit) ≡ blocksInto size (now (store .entry)) block n (now (bytes .entry)) ⌝ }
 {
-    let mut rest = bytes;
-    for i in 0..n {
-        block_into(size, store, block + i, rest);
-        let used = moves::least(size, rest.len());
-        rest = &rest[used..];
+    block_into(size, store, block, bytes);
+    if n == 1 {
+        return;
     }
+    let start = (block + 1) * size;
+    let end = (block + n) * size;
+    let used = moves::least(size, bytes.len());
+    moves::fill(&mut store[start..end], &bytes[used..]);
 }
 
 // The first `count` bytes of the n blocks from `block` on go to `to`, from `at` on. Blocks lie in a row, so this is one copy.
@@ -48,7 +50,7 @@ pub fn blocks_to(
     at: usize,
     count: usize,
 )
-    requires { ⌜ ((block + n) * size ≤ length (now store)) × (count ≤ n * size) × (at + count ≤ length (now to)) ⌝ }
+    requires { ⌜ ((block + n) * size ≤ length (now store)) × (count ≤ n * size) × (count ≤ 65536) × (at + count ≤ length (now to)) ⌝ }
     ensures { λ _. ⌜ now (to .exit) ≡ put (now (to .entry)) at (take count (blocksFrom size (now (store .entry)) block n)) ⌝ }
 {
     let from = block * size;

@@ -1,1 +1,1 @@
-pub mod Controls
+pub mod Admission

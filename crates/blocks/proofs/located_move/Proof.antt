@@ -9,16 +9,12 @@ use Rattle.blocks.proofs.located_move.Tie as tie
 address-requires : tie.Need-address-requires
 address-requires c κs =
     let pre = c .before .before .before .pre in
-    let args = c .before .before .before .args in
-    let p = pre in
-    placed (args .size) _ _ _ (p .0) (p .1) (p .2) .from-first
+    placed _ _ _ _ (pre .0) (pre .1) (pre .2) .from-first
 
 mul-can : tie.Need-mul-can
 mul-can c =
     let pre = c .before .before .before .before .before .pre in
-    let args = c .before .before .before .before .before .args in
-    let p = pre in
-    record { fits = omega (arith, placed (args .size) _ _ _ (p .0) (p .1) (p .2) .product) }
+    record { fits = omega (arith, placed _ _ _ _ (pre .0) (pre .1) (pre .2) .product) }
 
 returns : tie.Need-returns
 returns c = (c .before .before .address .ensures, refl, c .least .ensures)

@@ -1,34 +1,44 @@
--- `read_done` meets its contract. Assumes nothing.
+-- `read_done` meets its contract: n bytes begin at most n blocks. Assumes nothing.
 use native.Mathlib.Omega.{arith}
+use Rattle.moves.specs.Parts.{zeros}
+use Rattle.model.specs.Log.{withSense}
 use Rattle.model.proofs.Fields.{begun-least}
+use Rattle.running.proofs.Units.{zeroed}
 use Rattle.blocks.specs.Transferred.{readDone}
 use borrow.Author.Needs.{needs}
 use Rattle.blocks.proofs.read_done.Statement.{statement}
 use Rattle.blocks.proofs.read_done.Tie as tie
 
+begun-requires : tie.Need-begun-requires
+begun-requires c κs = let pre = c .pre in (pre .0, pre .1, omega (arith, pre .2, pre .3))
+
 read-counted-requires : tie.Need-read-counted-requires
 read-counted-requires c κs =
-    let begun = c .before .begun in
-    let args = c .before .before .args in
-    let pre = c .before .before .pre in
-    rw (begun .ensures) (omega (arith, begun-least (args .size) (args .m .n) (pre .0)))
+    let pre = c .before .pre in
+    omega (arith, c .begun .ensures, begun-least _ (c .before .args .m .n) (pre .0), pre .2, pre .3)
+
+ended-requires : tie.Need-ended-requires
+ended-requires c κs =
+    let begun = c .before .before .begun in
+    let start = c .before .before .before in
+    let pre = start .pre in
+    (pre .2, pre .3, omega (arith, begun .ensures, begun-least _ (start .args .m .n) (pre .0), pre .2, pre .3))
 
 returns : tie.Need-returns
 unfolding readDone
 returns c =
     let after = c .before .after in
     let read-counted = c .before .before .read-counted in
-    let no-sense = c .before .before .before .no-sense in
-    let begun = c .before .before .before .before .begun in
-    rw (c .ended .ensures, after .ensures, read-counted .ensures, no-sense .ensures, begun .ensures)
+    let begun = c .before .before .before .begun in
+    let s = c .before .before .before .before .args .s in
+    λ u. rw (c .ended .ensures u, after .ensures u, read-counted .ensures (withSense u (zeros 24)), zeroed u s, begun .ensures)
 
 pub read-done-spec : {M : Type 1} → statement M
 read-done-spec =
     tie.close
     (tie.spec
-    (search needs)  -- begun-requires
-    (search needs)  -- no-sense-requires
+    begun-requires
     read-counted-requires
     (search needs)  -- after-requires
-    (search needs)  -- ended-requires
+    ended-requires
     returns)

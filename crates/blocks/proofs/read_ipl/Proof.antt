@@ -1,54 +1,54 @@
 -- `read_ipl` meets its contract. One refusal, then block 0: the device has it, so the bounds hold (`in-store`). Assumes nothing.
-use mathlib.Core.Path.{refl, sym, ap, _∙_}
+use mathlib.Core.Path.{sym, ap, _∙_}
 use mathlib.Core.Bool.{not}
 use native.Mathlib.Omega.{arith}
-use Rattle.model.specs.Rules.{oneOf}
 use Rattle.model.specs.Lent.{blockCount}
-use Rattle.model.specs.Causes.{programCheck, readIplCauses}
+use Rattle.model.specs.Causes.{readIplCauses}
 use Rattle.model.proofs.Verdicts.{first-here, first-later, first-none}
 use Rattle.model.proofs.Lengths.{in-store}
-use Rattle.outcomes.proofs.Deciding.{refused-out, accepted-out}
+use Rattle.running.specs.Standing.{stateOf}
+use Rattle.outcomes.proofs.Deciding.{refused-outcome, accepted-outcome}
 use Rattle.blocks.proofs.Transfers.{few-blocks, ipl-moved}
 use borrow.Author.Needs.{needs}
 use Rattle.blocks.proofs.read_ipl.Statement.{statement}
 use Rattle.blocks.proofs.read_ipl.Tie as tie
 
 refuse-requires : tie.Need-refuse-requires
-unfolding programCheck oneOf
-refuse-requires c κs = (refl, omega arith, λ e. omega arith)
+refuse-requires c κs = (c .before .before .before .before .pre .0 .count, omega arith, λ e. omega arith)
 
 returns : tie.Need-returns
-unfolding readIplCauses
+unfolding readIplCauses stateOf
 returns c =
     let none-or-ipl = c .before .before .none-or-ipl in
     let if1 = c .before .if1 in
-    refused-out _ _ _ _ _ 40 _ _ (first-here _ _ (ap not (sym (none-or-ipl .ensures)) ∙ if1 .taken)) (λ z. omega arith) (c .refuse .ensures _)
+    λ u. refused-outcome u _ _ _ _ _ _ 40 _ (first-here _ _ (ap not (sym (none-or-ipl .ensures)) ∙ if1 .taken)) (λ z. omega arith) (c .refuse .ensures u _)
 
 blocks-to-requires : tie.Need-blocks-to-requires
 blocks-to-requires c κs =
-    let least = c .before .least in
+    let n = c .before .least .ensures in
     let pre = c .before .before .before .before .before .before .pre in
     let args = c .before .before .before .before .before .before .args in
-    let n = least .ensures in
+    let w = pre .0 .count in
     let r = pre .2 in
-    (in-store (args .size) (args .store .now) 1 (pre .1), omega (arith, n), omega (arith, n, r))
+    (in-store (args .size) (args .store .now) 1 (pre .1), omega (arith, n), omega (arith, n, w), omega (arith, n, r))
 
 ipl-done-requires : tie.Need-ipl-done-requires
 unfolding blockCount
 ipl-done-requires c κs =
     let pre = c .before .before .before .before .before .before .before .before .before .pre in
     let args = c .before .before .before .before .before .before .before .before .before .args in
-    (pre .1, few-blocks (args .size) (args .c) (args .store .now) (pre .0))
+    let n = c .before .before .before .before .least .ensures in
+    (pre .1, few-blocks (args .size) (args .c) (args .store .now) (pre .0), pre .0 .count, omega (arith, n))
 
 returns-2 : tie.Need-returns-2
-unfolding readIplCauses blockCount
+unfolding readIplCauses blockCount stateOf
 returns-2 c =
     let none-or-ipl = c .before .before .before .before .before .before .before .none-or-ipl in
     let if1 = c .before .before .before .before .before .before .if1 in
     let args = c .before .before .before .before .before .before .before .before .before .before .args in
     let least = c .before .before .before .before .before .least in
     let blocks-to = c .before .before .before .blocks-to in
-    accepted-out _ _ _ _ _ _ _ (first-later _ _ (ap not (sym (none-or-ipl .ensures)) ∙ if1 .left) ∙ first-none) (ipl-moved (args .size) (args .c) (args .s) (args .main .now) _ (args .store .now) _ _ (least .ensures) (blocks-to .ensures) (c .ipl-done .ensures))
+    λ u. accepted-outcome _ _ _ _ _ _ _ (first-later _ _ (ap not (sym (none-or-ipl .ensures)) ∙ if1 .left) ∙ first-none) (ipl-moved (args .size) u (args .c) (args .s) _ (args .main .now) (args .store .now) _ _ (least .ensures) (blocks-to .ensures) (c .ipl-done .ensures u))
 
 pub read-ipl-spec : {M : Type 1} → statement M
 read-ipl-spec =

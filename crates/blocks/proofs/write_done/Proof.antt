@@ -1,25 +1,44 @@
--- `write_done` meets its contract. Assumes nothing.
+-- `write_done` meets its contract: n bytes begin at most n blocks. Assumes nothing.
+use native.Mathlib.Omega.{arith}
+use Rattle.moves.specs.Parts.{zeros}
+use Rattle.model.specs.Log.{withSense}
+use Rattle.model.proofs.Fields.{begun-least}
+use Rattle.running.specs.Standing.{stateOf}
+use Rattle.running.proofs.Units.{zeroed}
 use Rattle.blocks.specs.Transferred.{writeDone}
 use borrow.Author.Needs.{needs}
 use Rattle.blocks.proofs.write_done.Statement.{statement}
 use Rattle.blocks.proofs.write_done.Tie as tie
 
+written-requires : tie.Need-written-requires
+written-requires c κs = c .before .pre .4
+
+begun-requires : tie.Need-begun-requires
+begun-requires c κs =
+    let pre = c .before .before .before .pre in
+    (pre .0, pre .1, omega (arith, pre .2, pre .3))
+
+ended-requires : tie.Need-ended-requires
+ended-requires c κs =
+    let start = c .before .before .before .before in
+    let pre = start .pre in
+    (pre .2, pre .3, omega (arith, c .begun .ensures, begun-least _ (start .args .m .n) (pre .0), pre .2, pre .3))
+
 returns : tie.Need-returns
-unfolding writeDone
+unfolding writeDone stateOf
 returns c =
+    let begun = c .before .begun in
     let after = c .before .before .after in
     let written = c .before .before .before .written in
-    let no-sense = c .before .before .before .before .no-sense in
-    let begun = c .before .begun in
-    rw (c .ended .ensures, after .ensures, written .ensures, no-sense .ensures, begun .ensures)
+    let s = c .before .before .before .before .before .args .s in
+    λ u. rw (c .ended .ensures u, after .ensures u, written .ensures (withSense u (zeros 24)), zeroed u s, begun .ensures)
 
 pub write-done-spec : {M : Type 1} → statement M
 write-done-spec =
     tie.close
     (tie.spec
-    (search needs)  -- no-sense-requires
-    (search needs)  -- written-requires
+    written-requires
     (search needs)  -- after-requires
-    (search needs)  -- begun-requires
-    (search needs)  -- ended-requires
+    begun-requires
+    ended-requires
     returns)

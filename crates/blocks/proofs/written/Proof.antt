@@ -11,7 +11,7 @@ returns c = simp (eq-eqb _ _ (c .before .if1 .taken)) (c .written-counted .ensur
 
 returns-2 : tie.Need-returns-2
 unfolding pick
-returns-2 c = simp (ne-eqb _ _ (c .if1 .left))
+returns-2 c = λ u. rw (ne-eqb _ _ (c .if1 .left))
 
 pub written-spec : {M : Type 1} → statement M
 written-spec = tie.close

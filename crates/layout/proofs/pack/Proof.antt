@@ -3,8 +3,7 @@
 use borrow.Author.Needs.{needs}
 use native.Mathlib.Omega.{arith}
 use lib.ListN.{length-set}
-use Rattle.records.proofs.Stores.{Arrays}
-use Rattle.layout.proofs.Stores.{record-stored}
+use Rattle.layout.proofs.Stores.{Arrays, record-stored}
 use Rattle.layout.proofs.pack.Statement.{statement}
 use Rattle.layout.proofs.pack.Tie as tie
 

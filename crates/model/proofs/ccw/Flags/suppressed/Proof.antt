@@ -2,7 +2,6 @@
 use Prim.Native.Nat.{ℕ}
 use mathlib.Core.Path.{refl}
 use mathlib.Core.Bool.{not}
-use mathlib.Core.List.{[], _∷_}
 use lib.Bits.{bitAnd}
 use lib.Dec.{eqb}
 use borrow.Author.Needs.{needs}

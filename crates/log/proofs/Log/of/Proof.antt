@@ -1,0 +1,54 @@
+-- `Log::of` meets its contract: three counts are put over the two bytes that every log has.
+-- Assumes nothing.
+use borrow.Author.Needs.{needs}
+use native.Mathlib.Omega.{arith}
+use Rattle.log.proofs.Stores.{Arrays, log-stored}
+use Rattle.log.proofs.Log.of.Statement.{statement}
+use Rattle.log.proofs.Log.of.Tie as tie
+
+arrays : (c : tie.Start) → Arrays (c .args .k)
+arrays c = record { read = search needs; written = search needs; movements = search needs }
+
+-- what is lent as a slice is an array of the counts
+slice-read : tie.Need-slice-aggregate-put-at-2
+slice-read c = search needs
+
+slice-written : tie.Need-slice-aggregate-put-at-4
+slice-written c = search needs
+
+slice-movements : tie.Need-slice-aggregate-put-at-6
+slice-movements c = search needs
+
+put-read : tie.Need-put-at-requires
+put-read c κs = omega (arith, arrays (c .before .before .before .before .before))
+
+put-written : tie.Need-put-at-requires-2
+put-written c κs = omega (arith, arrays (c .before .before .before .before .before .before .before .before .before))
+
+put-movements : tie.Need-put-at-requires-3
+put-movements c κs = omega (arith, arrays (c .before .before .before .before .before .before .before .before .before .before .before .before .before))
+
+returns : tie.Need-returns
+returns c =
+    let third = c .before in
+    let second = third .before .before .before .before in
+    let first = second .before .before .before .before in
+    let start = first .before .before .before .before .before .before in
+    λ u. log-stored u _ _ _ _ (arrays start) (first .put-at .ensures) (second .put-at2 .ensures) (third .put-at3 .ensures)
+
+pub of-spec : {M : Type 1} → statement M
+of-spec =
+    tie.close
+    (tie.spec
+    (search needs)  -- array-write-log
+    (search needs)  -- array-write-log-2
+    (search needs)  -- slice-aggregate-put-at
+    slice-read
+    put-read
+    (search needs)  -- slice-aggregate-put-at-3
+    slice-written
+    put-written
+    (search needs)  -- slice-aggregate-put-at-5
+    slice-movements
+    put-movements
+    returns)

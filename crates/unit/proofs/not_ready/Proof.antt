@@ -1,0 +1,24 @@
+-- `not_ready` meets its contract. Assumes nothing.
+use borrow.Author.Tests.{eq-eqb, ne-eqb}
+use mathlib.Core.Bool.{or-false}
+use Rattle.model.specs.Rules.{oneOf}
+use Rattle.unit.proofs.not_ready.Statement.{statement}
+use Rattle.unit.proofs.not_ready.Tie as tie
+
+returns : tie.Need-returns
+returns c = simp (ne-eqb _ _ (c .if1 .taken))
+
+returns-2 : tie.Need-returns-2
+unfolding oneOf
+returns-2 c = simp (eq-eqb _ _ (c .before .if1 .left), eq-eqb _ _ (c .if2 .taken))
+
+returns-3 : tie.Need-returns-3
+unfolding oneOf
+returns-3 c = rw (eq-eqb _ _ (c .before .if1 .left), ne-eqb _ _ (c .if2 .left), or-false)
+
+pub not-ready-spec : {M : Type 1} → statement M
+not-ready-spec = tie.close
+    (tie.spec
+    returns
+    returns-2
+    returns-3)
