@@ -25,7 +25,7 @@ pub fn be3(s: &[u8], at: usize) -> usize
     requires { ⌜ at + 3 ≤ length (now s) ⌝ }
     ensures { λ r. ⌜ (r ≡ be3 (now (s .entry)) at) × (r < 16777216) ⌝ }
 {
-    be2(s, at) * 256 + wide(s[at + 2])
+    wide(s[at]) * 65536 + wide(s[at + 1]) * 256 + wide(s[at + 2])
 }
 
 // The number in the 4 bytes from `at` on.
@@ -33,7 +33,8 @@ pub fn be4(s: &[u8], at: usize) -> u32
     requires { ⌜ at + 4 ≤ length (now s) ⌝ }
     ensures { λ r. ⌜ r ≡ be4 (now (s .entry)) at ⌝ }
 {
-    (be3(s, at) * 256 + wide(s[at + 3])) as u32
+    let high = wide(s[at]) * 16777216 + wide(s[at + 1]) * 65536;
+    (high + wide(s[at + 2]) * 256 + wide(s[at + 3])) as u32
 }
 
 // The number that 2 bytes hold.
