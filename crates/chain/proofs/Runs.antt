@@ -1,10 +1,11 @@
 -- Laws of `run`: done, one more command, and the command that ends it. No contract cites this file.
 --     Underway         what holds between two turns of the loop; it begins so, goes on so, and ends in the run
 --     turned, turned-go   one turn of the code is `next`, and its answer to "go on" is `more`
---     answer-.., go-..    what is put, and said of "go on", where a command was refused, had a wrong length, or ended
+--     present-..          what `present` puts, and says of "go on", where a command was refused, had a wrong length, or ended
+--     presented, goes-on, stops   that it is the answer of the report, and its "go on"
 use Prim.Native.Nat.{ℕ, suc, _+_, _-_, _*_, _/_, _≤_, _<_}
 use mathlib.Core.Path.{_≡_, refl, sym, ap, _∙_}
-use mathlib.Core.Bool.{Bool, true, false}
+use mathlib.Core.Bool.{Bool, true, false, not, _&&_, true≢false}
 use mathlib.Core.List.{List}
 use lib.ListN.{length, take, set}
 use native.Mathlib.Nat.{sub-zero}
@@ -17,18 +18,19 @@ use Rattle.model.specs.declared.ccw.Ccw.{Ccw}
 use Rattle.model.specs.declared.record.Record.{Record}
 use Rattle.model.specs.State.{State}
 use Rattle.model.specs.Names.{chain-command, INCORRECT-LENGTH}
-use Rattle.model.specs.Rules.{pick}
+use Rattle.model.specs.Rules.{_=?_, pick}
 use Rattle.model.specs.Lent.{ccwAt, flag, blockCount}
 use Rattle.model.specs.Commands.{Out, step}
 use Rattle.model.specs.Answer.{answerOf}
 use Rattle.model.specs.Chain.{System, system, stepAt, next, more, run, called}
 use Rattle.model.specs.Safe.{Safe}
+use Rattle.numbers.proofs.Joined.{both-true}
 use Rattle.model.proofs.Picks.{pick-true, pick-false}
 use Rattle.model.proofs.Lengths.{Going, next-going, some-block}
 use Rattle.model.proofs.Endings.{Callable}
 use Rattle.running.specs.Standing.{stateLeft}
 use Rattle.outcomes.specs.declared.Done.{Done}
-use Rattle.outcomes.specs.Report.{reported, report, Outcome, outcome, outcomeOf}
+use Rattle.outcomes.specs.Report.{marked, reported, report, Outcome, outcome, outcomeOf}
 use Rattle.chain.specs.Promises.{Runnable}
 
 pub run-done : (size : ℕ) (chain : List ℕ) (n i : ℕ) (y : System) → n ≡ 0 → run size chain n i y ≡ y
@@ -108,33 +110,41 @@ module _ (size : ℕ) (chain : List ℕ) (i : ℕ) (c : Ccw) (s : State) (main s
   unfolding more stepAt reported report
   turned-go b g = rw (← e) (g ∙ ap (λ (x : Outcome). x .report .go) f)
 
--- the answer that was put, and whether the chain goes on
-module _ (answers : List ℕ) (at : ℕ) (u : Record) (c : Ccw) (d : Done) where
-  pub answer-refused : (d .left .cause ≡ 0 → ⊥) → put answers at (take 8 (bytes8 (d .answer))) ≡ put answers at (reported u c d .answer)
-  unfolding reported pick
-  answer-refused n = rw (ne-eqb _ _ n)
+-- what `present` puts and says: of a refused command, of one with a wrong length, of one that ended
+module _ (answers : List ℕ) (at answer cause : ℕ) (wrong : Bool) where
+  pub present-refused : (cause ≡ 0 → ⊥) → (put answers at (take 8 (bytes8 answer)) ≡ put answers at (marked (cause =? 0 && wrong) (bytes8 answer))) × (false ≡ (cause =? 0 && not wrong))
+  unfolding pick
+  present-refused n = rw (ne-eqb _ _ n) (refl, refl)
 
-  pub answer-wrong : d .left .cause ≡ 0 → d .wrong ≡ true → at ≤ length answers
-      → set (put answers at (take 8 (bytes8 (d .answer)))) (at + 1) INCORRECT-LENGTH ≡ put answers at (reported u c d .answer)
-  unfolding reported pick
-  answer-wrong e w h = rw (eq-eqb _ _ e, w) (put-second answers at _ _ _ INCORRECT-LENGTH h)
+  pub present-wrong : cause ≡ 0 → wrong ≡ true → at ≤ length answers
+      → (set (put answers at (take 8 (bytes8 answer))) (at + 1) INCORRECT-LENGTH ≡ put answers at (marked (cause =? 0 && wrong) (bytes8 answer))) × (false ≡ (cause =? 0 && not wrong))
+  unfolding pick
+  present-wrong e w h = rw (eq-eqb _ _ e, w) (put-second answers at _ _ _ INCORRECT-LENGTH h, refl)
 
-  pub answer-ended : d .left .cause ≡ 0 → d .wrong ≡ false → put answers at (take 8 (bytes8 (d .answer))) ≡ put answers at (reported u c d .answer)
-  unfolding reported pick
-  answer-ended e w = rw (eq-eqb _ _ e, w)
+  pub present-ended : cause ≡ 0 → wrong ≡ false → (put answers at (take 8 (bytes8 answer)) ≡ put answers at (marked (cause =? 0 && wrong) (bytes8 answer))) × (true ≡ (cause =? 0 && not wrong))
+  unfolding pick
+  present-ended e w = rw (eq-eqb _ _ e, w) (refl, refl)
 
+-- what it puts is the command's answer, and the chain goes on where it says so and the CCW has flag 40
 module _ (u : Record) (c : Ccw) (d : Done) where
-  pub go-refused : (d .left .cause ≡ 0 → ⊥) → false ≡ reported u c d .go
+  pub presented : (x answers : List ℕ) (at : ℕ) → x ≡ put answers at (marked (d .left .cause =? 0 && d .wrong) (bytes8 (d .answer))) → x ≡ put answers at (reported u c d .answer)
   unfolding reported
-  go-refused n = rw (ne-eqb _ _ n)
+  presented x answers at e = e
 
-  pub go-wrong : d .left .cause ≡ 0 → d .wrong ≡ true → false ≡ reported u c d .go
+  pub goes-on : true ≡ (d .left .cause =? 0 && not (d .wrong)) → (b : Bool) → b ≡ flag c chain-command → b ≡ reported u c d .go
   unfolding reported
-  go-wrong e w = rw (eq-eqb _ _ e, w)
+  goes-on e b f =
+      let p = both-true (d .left .cause =? 0) (not (d .wrong)) (sym e) in
+      rw (p .0, p .1) f
 
-  pub go-ended : (b : Bool) → d .left .cause ≡ 0 → d .wrong ≡ false → b ≡ flag c chain-command → b ≡ reported u c d .go
+  pub stops : false ≡ (d .left .cause =? 0 && not (d .wrong)) → false ≡ reported u c d .go
   unfolding reported
-  go-ended b e w g = rw (eq-eqb _ _ e, w, g)
+  stops e = go (d .left .cause =? 0) (not (d .wrong)) (flag c chain-command) (sym e)
+    where
+      go : (a b f : Bool) → a && b ≡ false → false ≡ (a && b && f)
+      go true true f e = absurd (true≢false e)
+      go true false f e = refl
+      go false b f e = refl
 
 -- a store that kept its length is as good
 pub runnable-same : (size : ℕ) (store store′ : List ℕ) → length store′ ≡ length store → Runnable size store → Runnable size store′

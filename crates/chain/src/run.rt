@@ -6,11 +6,15 @@ use running::Left;
 use running::Running;
 use unit::step;
 ghost use mathlib.Core.Path.{_≡_};
-ghost use mathlib.Core.Bool.{true};
+ghost use mathlib.Core.Bool.{true, not, _&&_};
 ghost use Prim.Native.Nat.{ℕ, _+_, _*_, _/_, _≤_, _<_};
 ghost use lib.ListN.{length};
+ghost use Rattle.numbers.specs.Big.{bytes8};
+ghost use Rattle.moves.specs.Parts.{put};
+ghost use Rattle.model.specs.Rules.{_=?_};
 ghost use Rattle.model.specs.Lent.{blockCount};
 ghost use Rattle.model.specs.Chain.{system, next, more, run};
+ghost use Rattle.outcomes.specs.Report.{marked};
 ghost use Rattle.running.specs.Standing.{stateOf, stateLeft, Secure};
 ghost use Rattle.chain.specs.Promises.{Runnable};
 
@@ -20,8 +24,25 @@ pub struct Turn {
     pub go: bool,
 }
 
-// Command i: its CCW, the command itself, its answer. A refusal ends the chain, and so do a wrong length, which the channel
-// marks in the answer, and a CCW without flag 40.
+// The answer of a command goes to its place. The channel marks the wrong length of an accepted command in it; such a command
+// ends the chain, and so does a refused one.
+fn present(answers: &mut [u8], at: usize, answer: u64, cause: u8, wrong: bool) -> bool
+    requires { ⌜ at + 8 ≤ length (now answers) ⌝ }
+    ensures { λ r. ⌜ (now (answers .exit) ≡ put (now (answers .entry)) at (marked (cause =? 0 && wrong) (bytes8 answer))) × (r ≡ (cause =? 0 && not wrong)) ⌝ }
+{
+    let bytes = numbers::bytes8(answer);
+    moves::put_at(answers, at, &bytes, 8);
+    if cause != 0 {
+        return false;
+    }
+    if wrong {
+        answers[at + 1] = Channel::INCORRECT_LENGTH;
+        return false; // a wrong length
+    }
+    true
+}
+
+// Command i: its CCW, the command itself, its answer. The chain goes on where that lets it and the CCW has flag 40.
 fn one_turn(
     size: usize,
     chain: &[u8],
@@ -37,26 +58,16 @@ fn one_turn(
     ensures go { λ r. ⌜ ((k : ℕ) → r .go ≡ more size (now (chain .entry)) i (system (stateOf u s) (now (main .entry)) (now (store .entry)) (now (answers .entry)) k)) ⌝ }
     ensures same { λ r. ⌜ (r .go ≡ true → stateLeft u (r .left) ≡ stateOf u (r .left .state)) ⌝ }
 {
-    let at = i * 8;
     let c = ccw_at(chain, i);
     let d = step(size, u, c, s, main, store);
-    let a = numbers::bytes8(d.answer);
-    moves::put_at(answers, at, &a, 8);
     let l = d.left;
-    if l.cause != 0 {
-        return Turn { left: l, go: false };
-    }
-    if d.wrong {
-        answers[at + 1] = Channel::INCORRECT_LENGTH;
+    if present(answers, i * 8, d.answer, l.cause, d.wrong) {
         return Turn {
             left: l,
-            go: false, // a wrong length
+            go: c.flags.chained(),
         };
     }
-    Turn {
-        left: l,
-        go: c.flags.chained(),
-    }
+    Turn { left: l, go: false }
 }
 
 // How a run leaves the unit, and the commands reached.

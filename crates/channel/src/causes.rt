@@ -36,7 +36,7 @@ fn store_wrong(size: usize, len: usize) -> bool
 }
 
 // Each CCW has flag 40, so no CCW is the chain's last.
-pub fn all_chained(chain: &[u8]) -> bool
+fn all_chained(chain: &[u8]) -> bool
     ensures { λ r. ⌜ r ≡ allChained (now (chain .entry)) (length (now (chain .entry)) / 8) ⌝ }
 {
     let n = chain.len() / 8;

@@ -9,6 +9,7 @@ use mathlib.Core.List.{List, [], _∷_, _++_, append-assoc, append-nil}
 use lib.ListN.{length, getD, take, drop, length-append, drop-of-length-le, set}
 use lib.Seq.{take-suc, take-suc-set, take-all, drop-cons}
 use borrow.Author.Tests.{lt-ltb, le-ltb, eqb-true, eq-eqb, ne-eqb}
+use Rattle.numbers.proofs.Joined.{both-true}
 use Rattle.model.specs.Rules.{pick}
 use Rattle.digits.specs.Digits.{digit, decimalOf, decimal, hex, valueOf, isDigit, allDigits, bytesIn, same}
 
@@ -114,10 +115,6 @@ decoded-all text to i all e h k =
 
 -- equal lists
 
-pub and-true : (x y : Bool) → (x && y) ≡ true → (x ≡ true) × (y ≡ true)
-and-true true y e = (refl, e)
-and-true false y e = absurd (ff e)
-
 same-self : (l : List ℕ) → same l l ≡ true
 unfolding same
 same-self [] = refl
@@ -129,7 +126,7 @@ same-true [] [] e = refl
 same-true [] (b ∷ m) e = absurd (ff e)
 same-true (a ∷ l) [] e = absurd (ff e)
 same-true (a ∷ l) (b ∷ m) e =
-    let both = and-true _ _ e in
+    let both = both-true _ _ e in
     λ i. eqb-true a b (both .0) i ∷ same-true l m (both .1) i
 
 -- a test that is true exactly where two lists are equal is `same`

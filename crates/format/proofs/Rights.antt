@@ -15,7 +15,7 @@ use Rattle.moves.specs.Parts.{part, put}
 use Rattle.moves.proofs.Laws.{length-part, put-lent-whole, take-put}
 use Rattle.model.specs.Rules.{pick}
 use Rattle.digits.specs.Digits.{isHex, bytesIn}
-use Rattle.digits.proofs.Numbers.{and-true}
+use Rattle.numbers.proofs.Joined.{both-true}
 use Rattle.format.specs.Format.{Field, lines, blocks, numberOf, storage, ccw, value, bytesOf, hexLine, rightLine, wrongFrom, wrongLine, chainIn, exerciseIn}
 use Rattle.format.specs.Lengths.{lineLength}
 use Rattle.format.proofs.Lines.{no-lines, line-at, lines-at, line-inside}
@@ -69,12 +69,12 @@ pub hex-is : (f : Field) (l : List ℕ) (n : ℕ) → hexLine f l ≡ true → n
     → (length l ≡ length (f .key) + (n + n) + 1) × (f .least ≤ n) × (n ≤ f .most)
 unfolding hexLine isHex
 hex-is f l n e h =
-    let parts = and-true _ _ e in
-    let most = and-true _ _ (parts .0) in
-    let least = and-true _ _ (most .0) in
+    let parts = both-true _ _ e in
+    let most = both-true _ _ (parts .0) in
+    let least = both-true _ _ (most .0) in
     let long = keyed-long (f .key) l _ refl (least .0) in
     let lv = length-value (f .key) l long in
-    let even : length (value (f .key) l) % 2 ≡ 0 = eqb-true _ _ (and-true _ _ (parts .1) .0) in
+    let even : length (value (f .key) l) % 2 ≡ 0 = eqb-true _ _ (both-true _ _ (parts .1) .0) in
     let low : f .least ≤ length (value (f .key) l) / 2 = ltb-false _ _ (not-true _ (least .1)) in
     let high : length (value (f .key) l) / 2 ≤ f .most = ltb-false _ _ (not-true _ (most .1)) in
     (omega (arith, even, lv), omega (arith, low, lv), omega (arith, high, lv))

@@ -14,13 +14,13 @@ use Rattle.moves.proofs.Laws.{length-part}
 use Rattle.model.specs.Rules.{pick}
 use Rattle.model.proofs.Picks.{pick-ind}
 use Rattle.digits.specs.Digits.{decimal, isHex, same}
-use Rattle.digits.proofs.Numbers.{and-true}
+use Rattle.numbers.proofs.Joined.{both-true}
 use Rattle.format.specs.Format.{field, keyed, value, numberIn, numberOf, hexLine}
 
 -- a line that has a key is longer than it
 pub keyed-long : (key l : List ℕ) (r : Bool) → r ≡ keyed key l → r ≡ true → length key < length l
 unfolding keyed
-keyed-long key l r e h = ltb-true _ _ (and-true _ _ (and-true _ _ (sym e ∙ h) .0) .0)
+keyed-long key l r e h = ltb-true _ _ (both-true _ _ (both-true _ _ (sym e ∙ h) .0) .0)
 
 -- what `&line[from..end]` lends is the value
 pub value-lent : (key l : List ℕ) (n : ℕ) → n ≡ length key → length key < length l → midOf n (length l - 1 - n) l ≡ value key l

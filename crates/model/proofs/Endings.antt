@@ -13,7 +13,8 @@ use Rattle.model.specs.Lent.{ccwSize, blockCount}
 use Rattle.model.specs.Causes.{callCauses}
 use Rattle.model.specs.Chain.{System, system, next, run, start, callOf}
 use Rattle.model.proofs.Picks.{pick-ind}
-use Rattle.model.proofs.Verdicts.{failed-all, either-false}
+use Rattle.numbers.proofs.Joined.{either-false}
+use Rattle.model.proofs.Verdicts.{failed-all}
 
 -- what a call is known to have where its cause is 0
 pub record Callable (size : ℕ) (chain main store answers : List ℕ) : Type 0 where

@@ -28,7 +28,7 @@ use Rattle.model.specs.Host.{hostCallOf}
 use Rattle.model.specs.Safe.{Safe}
 use Rattle.model.specs.Moved.{InChain, Among, extentAt, Moved, SameAfter, SameHosted}
 use Rattle.model.proofs.Picks.{pick-both}
-use Rattle.model.proofs.Verdicts.{both-true}
+use Rattle.numbers.proofs.Joined.{both-true}
 use Rattle.model.proofs.Safety.{safe-start, step-safe}
 use Rattle.model.proofs.Hosts.{host-is-call, host-no-record}
 use Rattle.model.proofs.Alike.{parameter-same, Place, Sound, States, Mains, Stores, Dones, Outs, count-same}

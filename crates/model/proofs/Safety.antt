@@ -23,7 +23,8 @@ use Rattle.model.specs.Commands.{after, extentSet, locateSet, noOperatio
 use Rattle.model.specs.Safe.{OnDevice, InExtent, Safe}
 use Rattle.model.specs.Chain.{start}
 use Rattle.model.proofs.Picks.{pick-ind}
-use Rattle.model.proofs.Verdicts.{Failed, either-false, both-false}
+use Rattle.numbers.proofs.Joined.{both-false, either-false}
+use Rattle.model.proofs.Verdicts.{Failed}
 use Rattle.model.proofs.Steps.{Cases, step-cases}
 
 -- parameters that no cause refuses

@@ -21,7 +21,8 @@ use Rattle.model.specs.Parameters.{extentLength, locateLength, reads, wr
 use Rattle.model.specs.Causes.{channelCauses, commands, unitCauses, extentCauses, defineExtentCauses, permissionCauses, locationCauses, locateCauses, readIplCauses, transferCauses, ownCauses, causesOf, verdict}
 use Rattle.model.specs.Commands.{Out, noOperation, defineExtent, locate, read, write, readIpl, sense, senseType, readLog, accepted, refused, seen, decided, step}
 use Rattle.model.proofs.Picks.{pick-ind, pick-true, pick-false}
-use Rattle.model.proofs.Verdicts.{Failed, absent, first-append, failed-upto, failed-all, both-false}
+use Rattle.numbers.proofs.Joined.{both-false}
+use Rattle.model.proofs.Verdicts.{Failed, absent, first-append, failed-upto, failed-all}
 
 -- what the channel's tests leave known of a command, and the unit's
 pub record Admitted (c : Ccw) (main : List ℕ) : Type 0 where

@@ -17,6 +17,7 @@ use mathlib.Core.Logic.{_↔_}
 use mathlib.Core.Bool.{Bool, true, false, not, _&&_, _||_, true≢false, false≢true}
 use mathlib.Core.List.{List, [], _∷_, _++_, append-nil}
 use borrow.Author.Tests.{eqb-false, not-true}
+use Rattle.numbers.proofs.Joined.{both-true}
 use Rattle.model.specs.Rules.{_=?_, pick, Rule, _when_, firstOf}
 use Rattle.model.proofs.Picks.{pick-both}
 
@@ -27,20 +28,6 @@ Failed (r ∷ rs) = (r .holds ≡ false) × Failed rs
 abbrev pub absent : ℕ → List Rule → Bool
 absent w [] = true
 absent w (r ∷ rs) = not (r .cause =? w) && absent w rs
-
-pub both-true : (a b : Bool) → a && b ≡ true → (a ≡ true) × (b ≡ true)
-both-true true true e = (refl, refl)
-both-true true false e = absurd (false≢true e)
-both-true false true e = absurd (false≢true e)
-both-true false false e = absurd (false≢true e)
-
-pub both-false : (a b : Bool) → a && b ≡ false → a ≡ true → b ≡ false
-both-false true b e f = e
-both-false false b e f = absurd (false≢true f)
-
-pub either-false : (a b : Bool) → a || b ≡ false → (a ≡ false) × (b ≡ false)
-either-false true b e = absurd (true≢false e)
-either-false false b e = (refl, e)
 
 pub first-here : (r : Rule) (rs : List Rule) → r .holds ≡ true → firstOf (r ∷ rs) ≡ r .cause
 unfolding firstOf pick

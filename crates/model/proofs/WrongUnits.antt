@@ -17,7 +17,7 @@ use Rattle.model.specs.Names.{NO-OPERATION, SENSE-TYPE}
 use Rattle.model.specs.Lent.{recordBytes}
 use Rattle.model.specs.Log.{movementCounted}
 use Rattle.model.specs.Chain.{system, run, start, Called, classA}
-use Rattle.model.proofs.Verdicts.{both-true}
+use Rattle.numbers.proofs.Joined.{both-true}
 use Rattle.model.proofs.Opened.{opened}
 use Rattle.model.proofs.Inputs.{Lent, lent, theUnit, ccw}
 

@@ -1,6 +1,6 @@
 // The two statuses of an answer, with their bits.
 ghost use mathlib.Core.Path.{_≡_};
-ghost use Rattle.model.specs.Names.{ENDED, UNIT-CHECKED, PROGRAM-CHECK, INCORRECT-LENGTH};
+ghost use Rattle.model.specs.Names.{ENDED, UNIT-CHECKED, PROGRAM-CHECK};
 
 // What the unit presents, gathered over a command.
 pub struct Status(pub u8);
@@ -50,11 +50,5 @@ impl Channel {
         ensures { λ r. ⌜ r .0 ≡ PROGRAM-CHECK ⌝ }
     {
         Channel(Channel::PROGRAM_CHECK)
-    }
-
-    pub fn incorrect_length() -> Channel
-        ensures { λ r. ⌜ r .0 ≡ INCORRECT-LENGTH ⌝ }
-    {
-        Channel(Channel::INCORRECT_LENGTH)
     }
 }

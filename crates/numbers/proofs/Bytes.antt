@@ -1,13 +1,14 @@
 -- Laws of `AreBytes`: lists made of bytes are of bytes. No contract cites this file.
 use Prim.Native.Nat.{ℕ, zero, suc, _<_}
-use mathlib.Core.Path.{_≡_, refl}
-use mathlib.Core.Bool.{Bool, true, false, _&&_, false≢true}
+use mathlib.Core.Path.{_≡_}
+use mathlib.Core.Bool.{Bool, true, _&&_}
 use mathlib.Core.List.{List, [], _∷_, _++_}
 use native.Mathlib.Omega.{arith}
 use lib.Dec.{ltb}
 use lib.ListN.{getD, take, drop}
 use borrow.Author.Tests.{ltb-true}
 use Rattle.numbers.specs.Bytes.{AreBytes}
+use Rattle.numbers.proofs.Joined.{both-true}
 
 pub bytes-nil : AreBytes []
 unfolding AreBytes
@@ -47,8 +48,4 @@ allBelow n (b ∷ l) = ltb b n && allBelow n l
 
 pub bytes-tested : (l : List ℕ) → allBelow 256 l ≡ true → AreBytes l
 bytes-tested [] e = bytes-nil
-bytes-tested (b ∷ l) e = let p = both (ltb b 256) (allBelow 256 l) e in bytes-cons b l (ltb-true b 256 (p .0)) (bytes-tested l (p .1))
-  where
-    both : (s t : Bool) → s && t ≡ true → (s ≡ true) × (t ≡ true)
-    both true t e = (refl, e)
-    both false t e = absurd (false≢true e)
+bytes-tested (b ∷ l) e = let p = both-true (ltb b 256) (allBelow 256 l) e in bytes-cons b l (ltb-true b 256 (p .0)) (bytes-tested l (p .1))

@@ -1,3 +1,4 @@
+pub mod Joined
 pub mod Bytes
 pub mod Big
 pub mod Tables

@@ -18,7 +18,7 @@ use Rattle.numbers.proofs.Tables.{same-upto}
 use Rattle.model.specs.Rules.{_<?_, pick}
 use Rattle.model.specs.Sense.{senseTable, rowIn, senseOf}
 use Rattle.model.specs.Sense as table
-use Rattle.model.proofs.Verdicts.{both-true}
+use Rattle.numbers.proofs.Joined.{both-true}
 use Rattle.sense.specs.declared.SenseRow.{SenseRow}
 
 abbrev pub rowOf : ℕ → SenseRow

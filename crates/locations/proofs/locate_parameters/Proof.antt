@@ -9,7 +9,8 @@ use Rattle.model.specs.State.{State}
 use Rattle.model.specs.Rules.{Rule, firstOf}
 use Rattle.model.specs.Parameters.{modifiersIn, replicationIn}
 use Rattle.model.specs.Causes.{locationCauses, permissionCauses}
-use Rattle.model.proofs.Verdicts.{either-false, first-here, first-later}
+use Rattle.numbers.proofs.Joined.{either-false}
+use Rattle.model.proofs.Verdicts.{first-here, first-later}
 use Rattle.running.specs.Standing.{stateOf}
 use Rattle.locations.proofs.Tests.{eight, operation-low}
 use Rattle.locations.proofs.Locations.{locationLines, location-lines, processed-small}
