@@ -24,8 +24,8 @@ pub struct Turn {
     pub go: bool,
 }
 
-// The answer of a command goes to its place. The channel marks the wrong length of an accepted command in it; such a command
-// ends the chain, and so does a refused one.
+// The answer of a command goes to its place, and the channel marks a wrong length in it. Whether the chain may go on: a refused
+// command ends it, and so does a wrong length.
 fn present(answers: &mut [u8], at: usize, answer: u64, cause: u8, wrong: bool) -> bool
     requires { ⌜ at + 8 ≤ length (now answers) ⌝ }
     ensures { λ r. ⌜ (now (answers .exit) ≡ put (now (answers .entry)) at (marked (cause =? 0 && wrong) (bytes8 answer))) × (r ≡ (cause =? 0 && not wrong)) ⌝ }
