@@ -25,8 +25,9 @@ use Rattle.model.specs.Sense.{senseOf}
 use Rattle.model.specs.Log.{withSense, movementCounted, logOf, logReset}
 use Rattle.model.specs.Commands.{Out, after, extentSet, locateSet, noOperation, defineExtent, locate, sent, sense, senseType, readLog, begun, read, write, accepted, refusal, refused, seen, decided, step}
 use Rattle.model.specs.Safe.{InExtent, Safe}
+use Rattle.model.specs.Exactly.{absent}
 use Rattle.model.proofs.Picks.{pick-both}
-use Rattle.model.proofs.Verdicts.{absent, never-given, failed-upto}
+use Rattle.model.proofs.Verdicts.{never-given, failed-upto}
 use Rattle.model.proofs.Steps.{Admitted, accepted-cases, past-channel, own-cases, accepted-no-operation, accepted-define, accepted-locate, accepted-read, accepted-write, accepted-sense, accepted-sense-type, accepted-read-log}
 use Rattle.model.proofs.Safety.{after-locate, locate-ok, safe-seen}
 use Rattle.model.proofs.Alike.{Place, Sound, States, Mains, Stores, Outs, states-after, mains-put, stores-read, stores-write}

@@ -22,8 +22,9 @@ use Rattle.model.specs.Lent.{fetched, blockCount}
 use Rattle.model.specs.Parameters.{extentLength, extentIn, reservedIn, sizeIn, locateLength, address, outside, reads, writes}
 use Rattle.model.specs.Causes.{channelCauses, unitCauses, extentCauses, defineExtentCauses, permissionCauses, locationCauses, locateCauses, transferCauses, ownCauses, causesOf, verdict}
 use Rattle.model.specs.Moved.{Among}
+use Rattle.model.specs.Exactly.{Failed}
 use Rattle.model.proofs.Picks.{pick-both}
-use Rattle.model.proofs.Verdicts.{Failed, first-same}
+use Rattle.model.proofs.Verdicts.{first-same}
 use Rattle.model.proofs.Alike.{parameter-same, Place, Sound, States, Mains, Stores, sides, mains-part, count-same}
 
 pub record Fits (F : Place) (c : Ccw) : Type 0 where

@@ -1,78 +1,182 @@
--- Corners of 01, seen in whole calls: the order of the causes where two rules hold, and what is given "exactly when".
--- One table, one statement. Assumes nothing.
+-- The order of the causes, and what is not tested when, seen in whole calls. A corner says which rules of a table hold, all of
+-- them, and the call gives the first. A line mends what the line before it was refused for, so of any two neighbours of a table
+-- there is a line where both rules hold.
+--     corners         commands: 13, 10, 11, 12, 44, 43; 20 to 26; 30 to 39; 41, 42
+--     call-corners    the call from C: 1 to 6
+--     storage-limit, store-limit
+--                     both sides of the two limits that no example can hold
+-- Assumes nothing.
 use Prim.Native.Nat.{ℕ, _*_}
 use mathlib.Core.Path.{_≡_, refl}
 use mathlib.Core.List.{List, [], _∷_, _++_, map}
-use lib.ListN.{length, replicate}
-use Rattle.model.specs.Names.{NO-OPERATION, DEFINE-EXTENT, LOCATE, READ, READ-IPL, SENSE, SENSE-TYPE, write-data, read-data}
-use Rattle.model.specs.Rules.{firstOf}
-use Rattle.model.specs.Lent.{newRecord}
-use Rattle.model.specs.Causes.{callCauses}
+use lib.ListN.{length, getD, drop, replicate}
+use Rattle.model.specs.Names.{NO-OPERATION, DEFINE-EXTENT, LOCATE, READ, WRITE, READ-IPL, SENSE, SENSE-TYPE, format, write-data, read-data, read-replicated}
+use Rattle.model.specs.Rules.{pick, Rule, firstOf}
+use Rattle.model.specs.Lent.{ccwAt, newRecord}
+use Rattle.model.specs.Causes.{callCauses, hostCauses, causesOf}
+use Rattle.model.specs.Chain.{System, system, start, classA}
+use Rattle.model.specs.Host.{hostCall}
+use Rattle.model.specs.Reached.{found}
 use Rattle.model.proofs.Opened.{opened}
-use Rattle.model.proofs.Inputs.{device, ccw, extent, location, Line, got, wanted, causeOf}
+use Rattle.model.proofs.Inputs.{Lent, theUnit, device, ccw, extent, location, causeOf}
+
+-- the causes whose rules hold, in the table's order
+abbrev held : List Rule → List ℕ
+held [] = []
+held (r ∷ rs) = pick (r .holds) (r .cause ∷ held rs) (held rs)
+
+abbrev first : List ℕ → ℕ
+first l = getD l 0 0
+
+-- commands
+
+pub record Corner : Type 0 where
+  pub input : Lent
+  pub at : ℕ
+  pub hold : List ℕ
+
+-- the whole table of command i, on what it finds
+abbrev tableAt : ℕ → Lent → List Rule
+tableAt i l =
+    let f : System = found classA (l .chain) i (system (start (l .unit)) (l .main) (l .store) (l .answers) 0) in
+    causesOf classA (ccwAt (l .chain) i) (f .state) (f .main) (f .store)
+
+abbrev got : Corner → List ℕ
+got c = causeOf (c .at) (theUnit (c .input)) ∷ held (tableAt (c .at) (c .input))
+
+abbrev wanted : Corner → List ℕ
+wanted c = first (c .hold) ∷ c .hold
 
 -- one CCW on 24 bytes of main storage, to a unit that is ready (1) or not (0)
-abbrev alone : ℕ → List ℕ → ℕ → Line
-alone ready c cause = record {
+abbrev alone : ℕ → List ℕ → List ℕ → Corner
+alone ready c hold = record {
   input = record { chain = c; main = replicate 24 0; store = device 1; unit = newRecord ready 0; answers = replicate 8 0 };
-  seen = λ r. causeOf 0 r ∷ [];
-  want = cause ∷ [];
+  at = 0;
+  hold = hold;
 }
 
--- a chain on a read-only unit, an extent of these bytes at 0 and a LOCATE's parameters at 16: the cause of one command
-abbrev causeAt : ℕ → List ℕ → List ℕ → List ℕ → ℕ → Line
-causeAt i chain e l cause = record {
-  input = record { chain = chain; main = e ++ l; store = device 4; unit = newRecord 1 1; answers = replicate 32 0 };
-  seen = λ r. causeOf i r ∷ [];
-  want = cause ∷ [];
+-- command i of a chain on four blocks, of a unit that is read-only (1) or not (0), with DEFINE EXTENT's sixteen bytes at 0 and LOCATE's eight at 16
+abbrev at : ℕ → List ℕ → ℕ → List ℕ → List ℕ → List ℕ → Corner
+at i chain readOnly e l hold = record {
+  input = record { chain = chain; main = e ++ l; store = device 4; unit = newRecord 1 readOnly; answers = replicate 40 0 };
+  at = i;
+  hold = hold;
 }
 
 abbrev defining : List ℕ
 defining = ccw DEFINE-EXTENT 0 0x40 16
 
-abbrev locating : List ℕ
-locating = ccw LOCATE 16 0x00 8
+abbrev locating : ℕ → List ℕ
+locating flags = ccw LOCATE 16 flags 8
 
-abbrev forbidding : List ℕ
-forbidding = 0x40 ∷ replicate 15 0
+-- an extent over all four blocks, with this mask
+abbrev masked : ℕ → List ℕ
+masked mask = mask ∷ drop 1 (extent 0 0 3)
 
-abbrev pub lines : List Line
+-- DEFINE EXTENT with these sixteen bytes
+abbrev defined : List ℕ → List ℕ → Corner
+defined e hold = at 0 (ccw DEFINE-EXTENT 0 0x00 16) 0 e [] hold
+
+-- LOCATE with these eight bytes, under a mask, on a unit that is read-only or not
+abbrev located : ℕ → ℕ → List ℕ → List ℕ → Corner
+located readOnly mask l hold = at 1 (defining ++ locating 0x00) readOnly (masked mask) l hold
+
+abbrev pub lines : List Corner
 lines =
-    -- 13, 10, 11, 12, 44, 43, in this order
-    alone 0 (ccw 0x08 0 0x80 0) 13
-    ∷ alone 0 (ccw 0x07 0 0x80 0) 10
-    ∷ alone 0 (ccw 0x07 99 0x00 0) 11
-    ∷ alone 0 (ccw 0x07 1 0x00 24) 12
-    ∷ alone 0 (ccw 0x07 0 0x00 24) 44
-    ∷ alone 1 (ccw 0x07 0 0x00 24) 43
+    -- any command
+    alone 0 (ccw 0x08 99 0x80 0) (13 ∷ 10 ∷ 11 ∷ 12 ∷ 44 ∷ 43 ∷ [])
+    ∷ alone 0 (ccw 0x07 99 0x80 0) (10 ∷ 11 ∷ 12 ∷ 44 ∷ 43 ∷ [])
+    ∷ alone 0 (ccw 0x07 99 0x00 0) (11 ∷ 12 ∷ 44 ∷ 43 ∷ [])
+    ∷ alone 0 (ccw 0x07 1 0x00 24) (12 ∷ 44 ∷ 43 ∷ [])
+    ∷ alone 0 (ccw 0x07 0 0x00 24) (44 ∷ 43 ∷ [])
+    ∷ alone 1 (ccw 0x07 0 0x00 24) (43 ∷ [])
     -- 12 is not tested for NO-OPERATION; 44 is not given to SENSE and SENSE TYPE
-    ∷ alone 1 (ccw NO-OPERATION 99 0x00 24) 0
-    ∷ alone 0 (ccw NO-OPERATION 0 0x00 1) 44
-    ∷ alone 0 (ccw SENSE 0 0x00 24) 0
-    ∷ alone 0 (ccw SENSE-TYPE 0 0x00 24) 0
-    -- DEFINE EXTENT: 20 before 21, and 21 after READ IPL too
-    ∷ causeAt 1 (defining ++ ccw DEFINE-EXTENT 0 0x00 15) (extent 0 0 3) [] 20
-    ∷ causeAt 1 (defining ++ ccw DEFINE-EXTENT 0 0x00 16) (extent 0 0 3) [] 21
-    ∷ causeAt 1 (ccw READ-IPL 16 0x60 1 ++ ccw DEFINE-EXTENT 0 0x00 16) (extent 0 0 3) (0 ∷ []) 21
-    -- LOCATE: 30 before 31, 34 before 36, 36 before 37, 37 before 38
-    ∷ causeAt 0 (ccw LOCATE 16 0x00 7) (extent 0 0 3) (location write-data 0 1 0) 30
-    ∷ causeAt 1 (defining ++ ccw LOCATE 16 0x00 7) (extent 0 0 3) (location write-data 0 1 0) 31
-    ∷ causeAt 1 (defining ++ locating) forbidding (location write-data 0 0 9) 34
-    ∷ causeAt 1 (defining ++ locating) forbidding (location write-data 0 1 9) 36
-    ∷ causeAt 1 (defining ++ locating) forbidding (location write-data 0 1 0) 37
-    ∷ causeAt 1 (defining ++ locating) (extent 0 0 3) (location write-data 0 1 0) 38
-    -- READ: only directly after its LOCATE, and only once
-    ∷ causeAt 3 (defining ++ ccw LOCATE 16 0x40 8 ++ ccw NO-OPERATION 0 0x40 1 ++ ccw READ 0 0x20 1) (extent 0 0 3) (location read-data 0 1 0) 41
+    ∷ alone 1 (ccw NO-OPERATION 99 0x00 24) []
+    ∷ alone 0 (ccw NO-OPERATION 0 0x00 1) (44 ∷ [])
+    ∷ alone 0 (ccw SENSE 0 0x00 24) []
+    ∷ alone 0 (ccw SENSE-TYPE 0 0x00 24) []
+    -- DEFINE EXTENT where an extent stands, READ IPL's too
+    ∷ at 1 (defining ++ ccw DEFINE-EXTENT 16 0x00 15) 0 (extent 0 0 3) ((0x88 ∷ 0 ∷ 0 ∷ 7 ∷ []) ++ drop 4 (extent 4 1 0)) (20 ∷ 21 ∷ 22 ∷ 23 ∷ 24 ∷ 25 ∷ 26 ∷ [])
+    ∷ at 1 (defining ++ ccw DEFINE-EXTENT 16 0x00 16) 0 (extent 0 0 3) ((0x88 ∷ 0 ∷ 0 ∷ 7 ∷ []) ++ drop 4 (extent 4 1 0)) (21 ∷ 22 ∷ 23 ∷ 24 ∷ 25 ∷ 26 ∷ [])
+    ∷ at 1 (ccw READ-IPL 16 0x60 1 ++ ccw DEFINE-EXTENT 0 0x00 16) 0 (extent 0 0 3) (0 ∷ []) (21 ∷ [])
+    -- and its sixteen bytes
+    ∷ defined ((0x88 ∷ 0 ∷ 0 ∷ 7 ∷ []) ++ drop 4 (extent 4 1 0)) (22 ∷ 23 ∷ 24 ∷ 25 ∷ 26 ∷ [])
+    ∷ defined ((0x08 ∷ 0 ∷ 0 ∷ 7 ∷ []) ++ drop 4 (extent 4 1 0)) (23 ∷ 24 ∷ 25 ∷ 26 ∷ [])
+    ∷ defined ((0x00 ∷ 0 ∷ 0 ∷ 7 ∷ []) ++ drop 4 (extent 4 1 0)) (24 ∷ 25 ∷ 26 ∷ [])
+    ∷ defined (extent 4 1 0) (25 ∷ 26 ∷ [])
+    ∷ defined (extent 4 0 0) (26 ∷ [])
+    ∷ defined (extent 3 0 0) []
+    -- LOCATE with no extent, then with too few bytes
+    ∷ at 0 (ccw LOCATE 16 0x00 7) 0 (extent 0 0 3) (location 0x87 0 0 9) (30 ∷ 31 ∷ 32 ∷ 33 ∷ 34 ∷ 36 ∷ [])
+    ∷ at 1 (defining ++ ccw LOCATE 16 0x00 7) 0 (extent 0 0 3) (location 0x87 0 0 9) (31 ∷ 32 ∷ 33 ∷ 34 ∷ 36 ∷ [])
+    -- and its eight bytes: an operation that is none, a replicated read
+    ∷ located 0 0xC0 (location 0x87 0 0 9) (32 ∷ 33 ∷ 34 ∷ 36 ∷ [])
+    ∷ located 0 0xC0 (location 0x07 0 0 9) (33 ∷ 34 ∷ 36 ∷ [])
+    ∷ located 0 0xC0 (location read-replicated 1 0 9) (34 ∷ 35 ∷ 36 ∷ [])
+    ∷ located 0 0xC0 (location read-replicated 1 2 9) (35 ∷ 36 ∷ [])
+    ∷ located 0 0xC0 (location read-replicated 2 2 9) (36 ∷ [])
+    ∷ located 0 0xC0 (location read-replicated 2 2 0) []
+    -- a format, and a write
+    ∷ located 1 0x00 (location format 0 1 9) (36 ∷ 37 ∷ 38 ∷ 39 ∷ [])
+    ∷ located 1 0x00 (location format 0 1 0) (37 ∷ 38 ∷ 39 ∷ [])
+    ∷ located 1 0xC0 (location format 0 1 0) (38 ∷ 39 ∷ [])
+    ∷ located 0 0xC0 (location format 0 1 0) (39 ∷ [])
+    ∷ located 1 0x40 (location write-data 0 1 0) (37 ∷ 38 ∷ [])
+    ∷ located 1 0xC0 (location write-data 0 1 0) (38 ∷ [])
+    -- READ: only directly after its LOCATE, only once, and not after a write LOCATE
+    ∷ at 3 (defining ++ locating 0x40 ++ ccw NO-OPERATION 0 0x40 1 ++ ccw READ 0 0x20 1) 0 (extent 0 0 3) (location write-data 0 1 0) (41 ∷ 42 ∷ [])
+    ∷ at 3 (defining ++ locating 0x40 ++ ccw NO-OPERATION 0 0x40 1 ++ ccw READ 0 0x20 1) 0 (extent 0 0 3) (location read-data 0 1 0) (41 ∷ [])
+    ∷ at 2 (defining ++ locating 0x40 ++ ccw READ 0 0x60 1 ++ ccw READ 0 0x20 1) 0 (extent 0 0 3) (location read-data 0 1 0) []
+    ∷ at 3 (defining ++ locating 0x40 ++ ccw READ 0 0x60 1 ++ ccw READ 0 0x20 1) 0 (extent 0 0 3) (location read-data 0 1 0) (41 ∷ [])
+    ∷ at 2 (defining ++ locating 0x40 ++ ccw READ 0 0x20 1) 0 (extent 0 0 3) (location write-data 0 1 0) (42 ∷ [])
+    -- WRITE on a read-only unit that located nothing
+    ∷ at 0 (ccw WRITE 0 0x20 1) 1 (extent 0 0 3) [] (41 ∷ 42 ∷ [])
     ∷ []
 
 pub corners : map got lines ≡ map wanted lines
 unfolding opened
 corners = refl
 
--- The two limits that no example can hold: 16,777,216 bytes of main storage, and 131,072 blocks. Any list of that length, and of one more.
+-- the call from C: a chain, a store, a record's bytes and answers, on a main storage that is one byte too long or empty
+
+pub record CallCorner : Type 0 where
+  pub chain : List ℕ
+  pub main : List ℕ
+  pub store : List ℕ
+  pub unit : List ℕ
+  pub answers : List ℕ
+  pub hold : List ℕ
+
+abbrev call : List ℕ → List ℕ → List ℕ → List ℕ → List ℕ → List ℕ → CallCorner
+call chain main store unit answers hold = record { chain = chain; main = main; store = store; unit = unit; answers = answers; hold = hold }
+
+abbrev got-call : CallCorner → List ℕ
+got-call c = hostCall (c .chain) (c .main) (c .store) (c .unit) (c .answers) .result ∷ held (hostCauses classA (c .chain) (c .main) (c .store) (c .unit) (c .answers))
+
+abbrev wanted-call : CallCorner → List ℕ
+wanted-call c = 256 * first (c .hold) ∷ c .hold
 
 abbrev one-command : List ℕ
 one-command = ccw NO-OPERATION 0 0x00 1
+
+abbrev chained : List ℕ
+chained = ccw NO-OPERATION 0 0x40 1
+
+abbrev pub calls : List ℕ → List CallCorner
+calls large =
+    call (drop 1 chained) large [] [] [] (1 ∷ 2 ∷ 3 ∷ 4 ∷ 5 ∷ 6 ∷ [])
+    ∷ call chained large [] [] [] (2 ∷ 3 ∷ 4 ∷ 5 ∷ 6 ∷ [])
+    ∷ call chained large (device 1) [] [] (3 ∷ 4 ∷ 5 ∷ 6 ∷ [])
+    ∷ call chained [] (device 1) [] [] (4 ∷ 5 ∷ 6 ∷ [])
+    ∷ call chained [] (device 1) [] (replicate 8 0) (5 ∷ 6 ∷ [])
+    ∷ call one-command [] (device 1) [] (replicate 8 0) (6 ∷ [])
+    ∷ []
+
+pub call-corners : (large : List ℕ) → length large ≡ 16777217 → map got-call (calls large) ≡ map wanted-call (calls large)
+unfolding opened
+call-corners large e = rw e refl
+
+-- The two limits that no example can hold: 16,777,216 bytes of main storage, and 131,072 blocks. Any list of that length, and of one more.
 
 pub storage-limit : (main : List ℕ)
     → (length main ≡ 16777216 → firstOf (callCauses 512 one-command main (device 1) (replicate 8 0)) ≡ 0)

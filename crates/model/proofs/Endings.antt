@@ -50,7 +50,7 @@ callable size chain main store answers e =
     }
 
 -- a run of n commands at most reaches one of them, where there is one, and no more than n
-run-reached : (size : ℕ) (chain : List ℕ) (n i : ℕ) (y : System) → y .reached ≡ i → (i + min 1 n ≤ run size chain n i y .reached) × (run size chain n i y .reached ≤ i + n)
+pub run-reached : (size : ℕ) (chain : List ℕ) (n i : ℕ) (y : System) → y .reached ≡ i → (i + min 1 n ≤ run size chain n i y .reached) × (run size chain n i y .reached ≤ i + n)
 unfolding run next
 run-reached size chain zero i y e = (omega arith, omega arith)
 run-reached size chain (suc n) i y e =

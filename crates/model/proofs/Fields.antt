@@ -26,9 +26,10 @@ use Rattle.model.specs.Causes.{channelCauses, unitCauses, extentCauses, 
 use Rattle.model.specs.Sense.{SenseRow, senseTable, rowIn, senseOf}
 use Rattle.model.specs.Log.{withSense, withCounts, added3, added2, readCounted, writtenCounted, movementCounted, logOf, logReset}
 use Rattle.model.specs.Commands.{Out, noOperation, defineExtent, locate, sent, sense, senseType, readLog, begun, read, write, readIpl, refused, refusal, seen, after, extentSet, locateSet, step}
+use Rattle.model.specs.Exactly.{absent}
 use Rattle.model.proofs.Picks.{pick-ind}
 use Rattle.numbers.proofs.Joined.{both-true}
-use Rattle.model.proofs.Verdicts.{absent, peel, never-given}
+use Rattle.model.proofs.Verdicts.{peel, never-given}
 use Rattle.model.proofs.Safety.{define-ok, locate-ok}
 use Rattle.model.proofs.Steps.{past-channel, own-cases, Cases, step-cases}
 

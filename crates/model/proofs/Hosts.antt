@@ -32,7 +32,7 @@ result-reads cause reached h = (omega arith, omega arith)
 
 module _ (size : ℕ) (chain main store unit answers : List ℕ) where
   -- none of 1 to 6 holds: none of 1 to 5 does, and there are 34 bytes
-  host-passed : firstOf (hostCauses size chain main store unit answers) ≡ 0 → (firstOf (callCauses size chain main store answers) ≡ 0) × (length unit ≡ recordSize)
+  pub host-passed : firstOf (hostCauses size chain main store unit answers) ≡ 0 → (firstOf (callCauses size chain main store answers) ≡ 0) × (length unit ≡ recordSize)
   unfolding hostCauses callCauses
   host-passed e =
       let f = failed-upto 0 (callCauses size chain main store answers) _ refl e in

@@ -59,12 +59,12 @@ pub record IsLent (y : System) : Type 0 where
   pub store-bytes : AreBytes (y .store)
   pub answers-bytes : AreBytes (y .answers)
 
-count-fits : (chain : List ℕ) (i : ℕ) → AreBytes chain → ccwAt chain i .count < 65536
+pub count-fits : (chain : List ℕ) (i : ℕ) → AreBytes chain → ccwAt chain i .count < 65536
 unfolding ccwAt
 count-fits chain i b = be2-fits chain _ b
 
 module _ (size : ℕ) (chain : List ℕ) (h : 1 ≤ size) (b : AreBytes chain) where
-  next-bytes : (i : ℕ) (y : System) → IsLent y → IsLent (next size chain i y)
+  pub next-bytes : (i : ℕ) (y : System) → IsLent y → IsLent (next size chain i y)
   unfolding next stepAt
   next-bytes i y l =
       let c : Ccw = ccwAt chain i in
@@ -86,7 +86,7 @@ module _ (size : ℕ) (chain : List ℕ) (h : 1 ≤ size) (b : AreBytes chain) w
 
 -- the call
 
-some-size : (size : ℕ) (store : List ℕ) → 0 < blockCount size store → 1 ≤ size
+pub some-size : (size : ℕ) (store : List ℕ) → 0 < blockCount size store → 1 ≤ size
 unfolding blockCount
 some-size zero store h = absurd (not-suc-le-zero (rw div-zero at h))
 some-size (suc size) store h = omega arith

@@ -89,7 +89,7 @@ pub record Going (size : ℕ) (first y : System) : Type 0 where
   pub answers-length : length (y .answers) ≡ length (first .answers)
   pub safe : Safe (y .state) (blockCount size (y .store))
 
-answer-length : (c : Ccw) (d : Done) → length (answerOf c d) ≡ answerSize
+pub answer-length : (c : Ccw) (d : Done) → length (answerOf c d) ≡ answerSize
 unfolding answerOf
 answer-length c d = refl
 

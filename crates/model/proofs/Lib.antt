@@ -10,6 +10,8 @@ pub mod Fields
 pub mod Kept
 pub mod Records
 pub mod Hosts
+pub mod Exactly
+pub mod Reached
 pub mod Alike
 pub mod AlikeVerdicts
 pub mod AlikeCommands

@@ -13,7 +13,8 @@ use Rattle.model.specs.Commands.{after, extentSet, locateSet, noOperatio
 use Rattle.model.specs.Answer.{unitStatus, wrongLength, channelStatus, residual, answerOf, goesOn}
 use Rattle.model.specs.Chain.{stepAt, next, more, run, start, callOf}
 use Rattle.model.specs.Host.{resultOf, hostCallOf, setUp}
+use Rattle.model.specs.Reached.{found}
 
 unfoldable pub opened : ℕ
-unfolding bit anyBit zeros part put pad pick oneOf firstOf ccwAt flag fetched delivered blockStart blockCount blockAt blocksFrom blocksInto recordBytes recordOf newRecord extentIn reservedIn sizeIn locatedIn modifiersIn replicationIn processed forbids address outside allChained callCauses hostCauses channelCauses programCheck unitCauses defineExtentCauses extentCauses locateCauses locationCauses permissionCauses readIplCauses transferCauses ownCauses causesOf verdict rowIn senseOf withSense withCounts added3 added2 readCounted writtenCounted movementCounted logOf logReset after extentSet locateSet noOperation defineExtent locate sent sense senseType readLog begun read write wholeDevice readIpl accepted refusal refused seen decided step unitStatus wrongLength channelStatus residual answerOf goesOn stepAt next more run start callOf resultOf hostCallOf setUp
+unfolding bit anyBit zeros part put pad pick oneOf firstOf ccwAt flag fetched delivered blockStart blockCount blockAt blocksFrom blocksInto recordBytes recordOf newRecord extentIn reservedIn sizeIn locatedIn modifiersIn replicationIn processed forbids address outside allChained callCauses hostCauses channelCauses programCheck unitCauses defineExtentCauses extentCauses locateCauses locationCauses permissionCauses readIplCauses transferCauses ownCauses causesOf verdict rowIn senseOf withSense withCounts added3 added2 readCounted writtenCounted movementCounted logOf logReset after extentSet locateSet noOperation defineExtent locate sent sense senseType readLog begun read write wholeDevice readIpl accepted refusal refused seen decided step unitStatus wrongLength channelStatus residual answerOf goesOn stepAt next more run start callOf resultOf hostCallOf setUp found
 opened = 0

@@ -50,8 +50,13 @@ lines =
     ∷ record { input = oneByte write-data; seen = λ r. be2 (r .answers) 22 ∷ r .store; want = 1 ∷ device 1 ++ (0xAA ∷ replicate 1023 0) ++ replicate 512 3 }
     -- 5.8.1: and all of them are counted as written with check
     ∷ record { input = oneByte write-check; seen = λ r. be3 (r .unit .«blocks_written») 0 ∷ []; want = 2 ∷ [] }
-    -- 2.2.2.1: READ IPL is first, or after a READ IPL
+    -- 2.2.2.1: READ IPL is first, or after a READ IPL, and each counts
     ∷ causes (ccw READ-IPL 0 0x60 1 ++ ccw READ-IPL 0 0x60 1 ++ ccw NO-OPERATION 0 0x00 1) (3 ∷ 0 ∷ 0 ∷ 0 ∷ [])
+    ∷ record {
+      input = lent 1 (ccw READ-IPL 0 0x60 1 ++ ccw READ-IPL 0 0x20 1) (0 ∷ []);
+      seen = λ r. be3 (r .unit .«blocks_read») 0 ∷ be2 (r .unit .movements) 0 ∷ [];
+      want = 2 ∷ 2 ∷ [];
+    }
     ∷ causes (ccw READ-IPL 0 0x60 1 ++ ccw NO-OPERATION 0 0x40 1 ++ ccw READ-IPL 0 0x20 1) (3 ∷ 0 ∷ 0 ∷ 40 ∷ [])
     ∷ causes (ccw SENSE 0 0x40 24 ++ ccw READ-IPL 0 0x20 1 ++ ccw NO-OPERATION 0 0x00 1) (2 ∷ 0 ∷ 40 ∷ 0xFF ∷ [])
     -- 5.1 and 5.2: alternate space exhausted, with the LOCATE's parameters

@@ -6,7 +6,7 @@
 --                       alone; where it is a program check, nothing
 -- Assumes nothing.
 use Prim.Native.Nat.{ℕ, _/_}
-use mathlib.Core.Path.{_≡_, refl}
+use mathlib.Core.Path.{_≡_, refl, _∙_}
 use mathlib.Core.Bool.{true, false}
 use mathlib.Core.List.{List}
 use lib.ListN.{length}
@@ -17,14 +17,14 @@ use Rattle.model.specs.declared.state.Before.the-variants.{Other}
 use Rattle.model.specs.State.{State}
 use Rattle.model.specs.Rules.{pick, firstOf}
 use Rattle.model.specs.Lent.{ccwSize}
-use Rattle.model.specs.Causes.{callCauses, hostCauses, programCheck}
+use Rattle.model.specs.Causes.{callCauses, hostCauses, programCheck, verdict}
 use Rattle.model.specs.Sense.{senseOf}
 use Rattle.model.specs.Log.{withSense}
-use Rattle.model.specs.Commands.{Out, after, refused, refusal, step, sent, noOperation, defineExtent, locate, read, write, readIpl, sense, senseType, readLog}
+use Rattle.model.specs.Commands.{Out, after, refused, refusal, step}
 use Rattle.model.specs.Chain.{called, callOf, start, system, run}
 use Rattle.model.specs.Host.{resultOf, hostCallOf}
 use Rattle.model.proofs.Picks.{pick-ind, pick-true}
-use Rattle.model.proofs.Steps.{Cases, step-cases}
+use Rattle.model.proofs.Steps.{step-cause, step-refused}
 
 -- the call
 
@@ -91,21 +91,6 @@ refused-untouched c s main store w =
       program-check = λ b. pick-true _ _ _ b;
     }
 
--- an accepted command has cause 0
-accepted-zero : (size : ℕ) (c : Ccw) (s : State) (main store : List ℕ) → Cases size c s main store (λ o. (o .done .cause ≡ 0 → ⊥) → Untouched s main store o)
-unfolding noOperation defineExtent locate read write readIpl sense senseType readLog sent
-accepted-zero size c s main store = record {
-  refusal = λ w n e z. refused-untouched c s main store w;
-  no-operation = λ x z. absurd (z refl);
-  define-extent = λ a x f z. absurd (z refl);
-  locate = λ a x f z. absurd (z refl);
-  read = λ a x f z. absurd (z refl);
-  write = λ a x f z. absurd (z refl);
-  read-ipl = λ a x f z. absurd (z refl);
-  sense = λ a x z. absurd (z refl);
-  sense-type = λ a x z. absurd (z refl);
-  read-log = λ a x z. absurd (z refl);
-}
-
 pub step-untouched : (size : ℕ) (c : Ccw) (s : State) (main store : List ℕ) → (step size c s main store .done .cause ≡ 0 → ⊥) → Untouched s main store (step size c s main store)
-step-untouched size c s main store = step-cases size c s main store (λ o. (o .done .cause ≡ 0 → ⊥) → Untouched s main store o) (accepted-zero size c s main store)
+step-untouched size c s main store n =
+    rw (step-refused size c s main store (λ v. n (step-cause size c s main store ∙ v))) (refused-untouched c s main store (verdict size c s main store))

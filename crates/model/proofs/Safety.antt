@@ -22,9 +22,9 @@ use Rattle.model.specs.Causes.{extentCauses, defineExtentCauses, permiss
 use Rattle.model.specs.Commands.{after, extentSet, locateSet, noOperation, defineExtent, locate, sent, sense, senseType, readLog, read, write, wholeDevice, readIpl, refused, refusal, seen, step}
 use Rattle.model.specs.Safe.{OnDevice, InExtent, Safe}
 use Rattle.model.specs.Chain.{start}
+use Rattle.model.specs.Exactly.{Failed}
 use Rattle.model.proofs.Picks.{pick-ind}
 use Rattle.numbers.proofs.Joined.{both-false, either-false}
-use Rattle.model.proofs.Verdicts.{Failed}
 use Rattle.model.proofs.Steps.{Cases, step-cases}
 
 -- parameters that no cause refuses

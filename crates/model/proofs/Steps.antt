@@ -4,6 +4,7 @@
 --     past-channel                  a verdict that the channel and the unit do not give is the command's own
 --     own-.. , accepted-..          the table and the effect of each command
 --     step-cases                    what holds of a refusal and of each accepted command holds of `step`
+--     step-cause                    the cause that a command ends with is the verdict of its table
 -- No contract cites this file.
 use Prim.Native.Nat.{ℕ, _+_, _≤_, _<_}
 use mathlib.Core.Path.{_≡_, refl, sym, ap, _∙_}
@@ -19,10 +20,11 @@ use Rattle.model.specs.Rules.{_=?_, pick, oneOf, Rule, firstOf}
 use Rattle.model.specs.Lent.{fetched, blockCount}
 use Rattle.model.specs.Parameters.{extentLength, locateLength, reads, writes}
 use Rattle.model.specs.Causes.{channelCauses, commands, unitCauses, extentCauses, defineExtentCauses, permissionCauses, locationCauses, locateCauses, readIplCauses, transferCauses, ownCauses, causesOf, verdict}
-use Rattle.model.specs.Commands.{Out, noOperation, defineExtent, locate, read, write, readIpl, sense, senseType, readLog, accepted, refused, seen, decided, step}
+use Rattle.model.specs.Commands.{Out, noOperation, defineExtent, locate, read, write, readIpl, sense, senseType, readLog, accepted, sent, refused, refusal, seen, decided, step}
+use Rattle.model.specs.Exactly.{Failed, absent}
 use Rattle.model.proofs.Picks.{pick-ind, pick-true, pick-false}
 use Rattle.numbers.proofs.Joined.{both-false}
-use Rattle.model.proofs.Verdicts.{Failed, absent, first-append, failed-upto, failed-all}
+use Rattle.model.proofs.Verdicts.{first-append, failed-upto, failed-all}
 
 -- what the channel's tests leave known of a command, and the unit's
 pub record Admitted (c : Ccw) (main : List ℕ) : Type 0 where
@@ -219,3 +221,29 @@ pub step-cases : (size : ℕ) (c : Ccw) (s : State) (main store : List ℕ) (P :
 unfolding step decided
 step-cases size c s main store P k =
     pick-ind P _ _ _ (λ b. accepted-cases size c s main store P k (eqb-true _ _ b)) (λ b. k .refusal _ (eqb-false _ _ b) refl)
+
+module _ (size : ℕ) (c : Ccw) (s : State) (main store : List ℕ) where
+  -- an accepted command has cause 0
+  accepted-cause : verdict size c s main store ≡ 0 → Cases size c s main store (λ o. o .done .cause ≡ 0)
+  unfolding noOperation defineExtent locate read write readIpl sense senseType readLog sent
+  accepted-cause e = record {
+    refusal = λ w n v. absurd (n (sym v ∙ e));
+    no-operation = λ _. refl;
+    define-extent = λ _ _ _. refl;
+    locate = λ _ _ _. refl;
+    read = λ _ _ _. refl;
+    write = λ _ _ _. refl;
+    read-ipl = λ _ _ _. refl;
+    sense = λ _ _. refl;
+    sense-type = λ _ _. refl;
+    read-log = λ _ _. refl;
+  }
+
+  pub step-cause : step size c s main store .done .cause ≡ verdict size c s main store
+  unfolding step decided refused refusal
+  step-cause =
+      pick-ind (λ (o : Out). o .done .cause ≡ verdict size c s main store) _ _ _
+      (λ b.
+      let e = eqb-true _ _ b in
+      accepted-cases size c s main store (λ o. o .done .cause ≡ 0) (accepted-cause e) e ∙ sym e)
+      (λ _. refl)

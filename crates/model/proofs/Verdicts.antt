@@ -1,6 +1,4 @@
 -- What a verdict tells of its table, and a table of its verdict.
---     Failed        no rule of a table holds
---     absent        a table has no line for this cause: a test that antt computes
 --     first-here, first-later, first-none
 --                   a table read line by line: the verdict is here, or in the rest, or there is none
 --     first-append  the verdict of one table after another
@@ -8,26 +6,20 @@
 --     failed-upto   a verdict that the front of a table does not give: no rule there holds, and the rest gives it
 --     none-given    where no rule holds the verdict is 0
 --     never-given   a cause that no line of a table has is not its verdict
---     first-given     the cause of a rule that holds after rules that do not is the verdict
---     given-exactly   both ways at once: what "given exactly when" says
+--     first-given   the cause of a rule that holds after rules that do not is the verdict
+--     line-exactly  the cause of a line is the verdict exactly where its rule holds and no rule before it does
+--     exactly       so a table that has no cause twice is given exactly
 -- No contract cites this file.
 use Prim.Native.Nat.{ℕ}
-use mathlib.Core.Path.{_≡_, refl, sym}
+use mathlib.Core.Path.{_≡_, refl, sym, _∙_}
 use mathlib.Core.Logic.{_↔_}
 use mathlib.Core.Bool.{Bool, true, false, not, _&&_}
 use mathlib.Core.List.{List, [], _∷_, _++_, append-nil}
-use borrow.Author.Tests.{eqb-false, not-true}
+use borrow.Author.Tests.{eqb-false, ne-eqb, not-true}
 use Rattle.numbers.proofs.Joined.{both-true}
-use Rattle.model.specs.Rules.{_=?_, pick, Rule, _when_, firstOf}
+use Rattle.model.specs.Rules.{_=?_, pick, Rule, firstOf}
+use Rattle.model.specs.Exactly.{Failed, absent, once, GivenExactly}
 use Rattle.model.proofs.Picks.{pick-both}
-
-abbrev pub Failed : List Rule → Type 0
-Failed [] = Unit {0}
-Failed (r ∷ rs) = (r .holds ≡ false) × Failed rs
-
-abbrev pub absent : ℕ → List Rule → Bool
-absent w [] = true
-absent w (r ∷ rs) = not (r .cause =? w) && absent w rs
 
 pub first-here : (r : Rule) (rs : List Rule) → r .holds ≡ true → firstOf (r ∷ rs) ≡ r .cause
 unfolding firstOf pick
@@ -86,23 +78,57 @@ pub never-given : (w : ℕ) (rs : List Rule) → absent w rs ≡ true → (w ≡
 unfolding firstOf
 never-given w rs a n e = n (sym (failed-upto w rs [] a (rw append-nil e) .1))
 
-pub first-given : (rs qs : List Rule) (w : ℕ) (b : Bool) → Failed rs → b ≡ true → firstOf (rs ++ w when b ∷ qs) ≡ w
+first-given : (front back : List Rule) (r : Rule) → Failed front → r .holds ≡ true → firstOf (front ++ (r ∷ back)) ≡ r .cause
 unfolding firstOf pick
-first-given [] qs w b f e = rw e
-first-given (r ∷ rs) qs w b f e = rw (f .0) (first-given rs qs w b (f .1) e)
+first-given [] back r f e = rw e
+first-given (q ∷ front) back r f e = rw (f .0) (first-given front back r (f .1) e)
 
 taken : (t : Bool) (w k : ℕ) → (k ≡ w → ⊥) → pick t w k ≡ w → t ≡ true
 unfolding pick
 taken true w k n e = refl
 taken false w k n e = absurd (n e)
 
--- "Given exactly when": a cause with one line in a table is the verdict where its rule holds and no rule before it does, and nowhere else
-pub given-exactly : (rs qs : List Rule) (w : ℕ) (b : Bool) → (w ≡ 0 → ⊥) → absent w rs ≡ true → absent w qs ≡ true
-    → firstOf (rs ++ w when b ∷ qs) ≡ w ↔ (Failed rs × (b ≡ true))
+-- a line of a table that has no cause twice: its cause is not 0, and no other line has it
+line-absent : (w : ℕ) (front : List Rule) (r : Rule) (back : List Rule) → absent w (front ++ (r ∷ back)) ≡ true → r .cause ≡ w → ⊥
+line-absent w [] r back a = eqb-false _ _ (not-true _ (both-true _ _ a .0))
+line-absent w (q ∷ front) r back a = line-absent w front r back (both-true (not (q .cause =? w)) _ a .1)
+
+once-first : (r : Rule) (rs : List Rule) → once (r ∷ rs) ≡ true → (r .cause =? 0 ≡ false) × (absent (r .cause) rs ≡ true) × (once rs ≡ true)
+once-first r rs o =
+    let p = both-true (not (r .cause =? 0)) _ o in
+    let q = both-true (absent (r .cause) rs) _ (p .1) in
+    (not-true _ (p .0), q .0, q .1)
+
+line-once : (front : List Rule) (r : Rule) (back : List Rule) → once (front ++ (r ∷ back)) ≡ true → (r .cause ≡ 0 → ⊥) × (absent (r .cause) front ≡ true) × (absent (r .cause) back ≡ true)
+line-once [] r back o =
+    let p = once-first r back o in
+    (eqb-false _ _ (p .0), refl, p .1)
+line-once (q ∷ front) r back o =
+    let p = once-first q (front ++ (r ∷ back)) o in
+    let k = line-once front r back (p .2) in
+    let other : q .cause =? r .cause ≡ false = ne-eqb _ _ (λ e. line-absent (q .cause) front r back (p .1) (sym e)) in
+    (k .0, rw other (k .1), k .2)
+
+line-exactly : (front : List Rule) (r : Rule) (back : List Rule) → once (front ++ (r ∷ back)) ≡ true
+    → firstOf (front ++ (r ∷ back)) ≡ r .cause ↔ (Failed front × (r .holds ≡ true))
 unfolding firstOf
-given-exactly rs qs w b n a c = (
-  (λ e.
-      let p = failed-upto w rs (w when b ∷ qs) a e in
-      (p .0, taken b w (firstOf qs) (never-given w qs c n) (p .1))),
-  λ f. first-given rs qs w b (f .0) (f .1),
-)
+line-exactly front r back o =
+    let k = line-once front r back o in (
+      (λ e.
+          let p = failed-upto (r .cause) front (r ∷ back) (k .1) e in
+          (p .0, taken (r .holds) (r .cause) (firstOf back) (never-given (r .cause) back (k .2) (k .0)) (p .1))),
+      λ f. first-given front back r (f .0) (f .1),
+    )
+
+none-once : (rs : List Rule) → once rs ≡ true → absent 0 rs ≡ true
+none-once [] o = refl
+none-once (r ∷ rs) o =
+    let p = once-first r rs o in
+    rw (p .0) (none-once rs (p .2))
+
+pub exactly : (table : List Rule) → once table ≡ true → GivenExactly table (firstOf table)
+exactly table o = record {
+  line = λ front r back e. rw e (line-exactly front r back (rw e at o));
+  none = (failed-all 0 table (none-once table o), none-given table);
+  listed = λ a. sym (failed-upto (firstOf table) table [] a (rw append-nil refl) .1) ∙ first-none;
+}

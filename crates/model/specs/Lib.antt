@@ -11,4 +11,6 @@ pub mod Answer
 pub mod Chain
 pub mod Host
 pub mod Safe
+pub mod Exactly
+pub mod Reached
 pub mod Moved
