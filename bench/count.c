@@ -5,7 +5,7 @@
 #include <stdio.h>
 
 struct qemu_plugin_tb;
-enum { ADD };
+enum { ADD }; // what may be done to a number as a block runs
 void qemu_plugin_register_vcpu_tb_trans_cb(uint64_t id, void (*translated)(uint64_t id, struct qemu_plugin_tb *block));
 void qemu_plugin_register_vcpu_tb_exec_inline(struct qemu_plugin_tb *block, int operation, void *number, uint64_t by);
 void qemu_plugin_register_atexit_cb(uint64_t id, void (*ended)(uint64_t id, void *data), void *data);
