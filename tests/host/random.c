@@ -5,6 +5,7 @@
 #include <string.h>
 
 #define BATCH 10000u
+#define SHOWN 40000u // after so many chains it is said how far it is
 #define LARGE 100u // this many inputs, or nearly, have large buffers
 #define CAUSES 45
 
@@ -199,6 +200,7 @@ void test_random(uint32_t chains, uint64_t seed)
         same = agree(&r, &t, i % every == every - 1 ? i / every + 1 : 0);
         if (!same) printf("  chain %lu of seed %llu\n", (unsigned long)i, (unsigned long long)seed);
         if (!same || i % BATCH == BATCH - 1 || i == chains - 1) check("random", "a batch agrees with the second program", same);
+        if (i % SHOWN == SHOWN - 1) fprintf(stderr, "host: %lu of %lu random chains\n", (unsigned long)i + 1, (unsigned long)chains);
     }
     printf("chains: %lu, commands reached: %lu\n", (unsigned long)i, t.reached);
     if (!same || chains == 0) return;
