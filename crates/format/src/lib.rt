@@ -1,4 +1,4 @@
-// The input, line by line: whether it is right (`wrong_line`), and what a right one says (`number_at`, `storage_in`, `chain_in`).
+// The input, line by line: whether it is right (`wrong_line`), and what a right one says (`settings_in`, `storage_in`, `chain_in`).
 // A line counts with the line feed that ends it.
 use digits::decode;
 use digits::is_decimal;

@@ -1,7 +1,6 @@
 -- Bytes stay bytes, and counts fit their fields.
 --     IsRecord      a unit record: each field of its length, and of bytes
 --     step-fields   one command: record, main storage and store stay bytes; the numbers of its answer fit theirs
---     call-bytes    the call: all that was bytes stays so
 -- Assumes nothing.
 use Prim.Native.Nat.{ℕ, zero, suc, _+_, _-_, _*_, _/_, _≤_, _<_, min}
 use mathlib.Core.Path.{_≡_, refl, _∙_}

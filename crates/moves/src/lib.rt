@@ -1,5 +1,5 @@
 // How bytes move between slices: copied, cleared, filled, put at a place. Nothing here is refused: a caller proves that what it names is there.
-// `put_at` is the way into main storage and the store, `fill` the way into one block.
+// `put_at` is the way into main storage and the store, `fill` the way into blocks.
 ghost use mathlib.Core.Path.{_≡_};
 ghost use Prim.Native.Nat.{_+_, _≤_, min};
 ghost use lib.ListN.{length, take};
