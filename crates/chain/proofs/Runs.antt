@@ -12,8 +12,8 @@ use native.Mathlib.Nat.{sub-zero}
 use native.Mathlib.Omega.{arith}
 use borrow.Author.Tests.{eq-eqb, ne-eqb}
 use Rattle.numbers.specs.Big.{bytes8}
-use Rattle.moves.specs.Parts.{put}
-use Rattle.moves.proofs.Laws.{put-second}
+use Rattle.slices.specs.Parts.{put}
+use Rattle.slices.proofs.Laws.{put-second}
 use Rattle.model.specs.declared.ccw.Ccw.{Ccw}
 use Rattle.model.specs.declared.record.Record.{Record}
 use Rattle.model.specs.State.{State}
@@ -28,9 +28,9 @@ use Rattle.numbers.proofs.Joined.{both-true}
 use Rattle.model.proofs.Picks.{pick-true, pick-false}
 use Rattle.model.proofs.Lengths.{Going, next-going, some-block}
 use Rattle.model.proofs.Endings.{Callable}
-use Rattle.running.specs.Standing.{stateLeft}
-use Rattle.outcomes.specs.declared.Done.{Done}
-use Rattle.outcomes.specs.Report.{marked, reported, report, Outcome, outcome, outcomeOf}
+use Rattle.unit_state.specs.Standing.{stateLeft}
+use Rattle.endings.specs.declared.Done.{Done}
+use Rattle.endings.specs.Report.{marked, reported, report, Outcome, outcome, outcomeOf}
 use Rattle.chain.specs.Promises.{Runnable}
 
 pub run-done : (size : ℕ) (chain : List ℕ) (n i : ℕ) (y : System) → n ≡ 0 → run size chain n i y ≡ y

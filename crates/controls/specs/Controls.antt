@@ -4,7 +4,7 @@
 -- Assumes nothing.
 use Prim.Native.Nat.{ℕ}
 use mathlib.Core.List.{List}
-use Rattle.moves.specs.Parts.{zeros}
+use Rattle.slices.specs.Parts.{zeros}
 use Rattle.model.specs.declared.state.Before.the-variants.{Other}
 use Rattle.model.specs.State.{State, Done}
 use Rattle.model.specs.Rules.{_=?_, pick, firstOf}

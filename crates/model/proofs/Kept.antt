@@ -14,7 +14,7 @@ use Rattle.numbers.specs.Bytes.{AreBytes}
 use Rattle.numbers.specs.Big.{be2}
 use Rattle.numbers.proofs.Bytes.{bytes-nil, bytes-cons, bytes-append}
 use Rattle.numbers.proofs.Big.{bytes2-are, bytes2-hold, be2-fits}
-use Rattle.moves.proofs.Laws.{bytes-put}
+use Rattle.slices.proofs.Laws.{bytes-put}
 use Rattle.model.specs.declared.ccw.Ccw.{Ccw}
 use Rattle.model.specs.declared.record.Record.{Record}
 use Rattle.model.specs.State.{Done}

@@ -11,8 +11,8 @@ use lib.ListN.{length, take, drop, length-take}
 use native.Mathlib.Nat.{mul-zero, mul-le-mul-right, div-mul-le-self, div-add-mod}
 use native.Mathlib.Omega.{arith}
 use borrow.Author.Tests.{eqb-true}
-use Rattle.moves.specs.Parts.{pad}
-use Rattle.moves.proofs.Laws.{length-put, length-pad}
+use Rattle.slices.specs.Parts.{pad}
+use Rattle.slices.proofs.Laws.{length-put, length-pad}
 use Rattle.model.specs.declared.ccw.Ccw.{Ccw}
 use Rattle.model.specs.declared.record.Record.{Record}
 use Rattle.model.specs.State.{State, Done}

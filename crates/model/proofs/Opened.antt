@@ -2,7 +2,7 @@
 -- No contract cites this file.
 use Prim.Native.Nat.{ℕ}
 use Rattle.numbers.specs.Bits.{bit, anyBit}
-use Rattle.moves.specs.Parts.{zeros, part, put, pad}
+use Rattle.slices.specs.Parts.{zeros, part, put, pad}
 use Rattle.model.specs.Rules.{pick, oneOf, firstOf}
 use Rattle.model.specs.Lent.{ccwAt, flag, fetched, delivered, blockStart, blockCount, blockAt, blocksFrom, blocksInto, recordBytes, recordOf, newRecord}
 use Rattle.model.specs.Parameters.{extentIn, reservedIn, sizeIn, locatedIn, modifiersIn, replicationIn, processed, forbids, address, outside}

@@ -18,8 +18,8 @@ use native.Mathlib.Omega.{arith}
 use borrow.Author.Tests.{eqb-true, ne-eqb}
 use Rattle.numbers.specs.Bytes.{AreBytes}
 use Rattle.numbers.specs.Big.{be2}
-use Rattle.moves.specs.Parts.{part, put}
-use Rattle.moves.proofs.Laws.{length-put, get-after, get-part, by-place, part-apart, part-put}
+use Rattle.slices.specs.Parts.{part, put}
+use Rattle.slices.proofs.Laws.{length-put, get-after, get-part, by-place, part-apart, part-put}
 use Rattle.model.specs.declared.ccw.Ccw.{Ccw}
 use Rattle.model.specs.declared.record.Record.{Record}
 use Rattle.model.specs.State.{State, Done}

@@ -10,7 +10,7 @@ use Prim.Native.Nat.{ℕ, _+_, _-_, _*_, _/_, min}
 use mathlib.Core.Bool.{true}
 use mathlib.Core.List.{List, [], _∷_}
 use lib.ListN.{take}
-use Rattle.moves.specs.Parts.{zeros}
+use Rattle.slices.specs.Parts.{zeros}
 use Rattle.model.specs.declared.ccw.Ccw.{Ccw}
 use Rattle.model.specs.declared.extent.Extent.{Extent}
 use Rattle.model.specs.declared.extent.Located.{Located}

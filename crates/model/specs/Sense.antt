@@ -4,7 +4,7 @@
 -- Assumes nothing.
 use Prim.Native.Nat.{ℕ}
 use mathlib.Core.List.{List, [], _∷_}
-use Rattle.moves.specs.Parts.{zeros, put}
+use Rattle.slices.specs.Parts.{zeros, put}
 use Rattle.model.specs.Names.{format-at, parameters-at}
 use Rattle.model.specs.Rules.{_=?_, pick}
 

@@ -17,7 +17,7 @@ use Rattle.model.specs.Causes.{commands, channelCauses, unitCauses, defineExten
 use Rattle.model.specs.Commands.{Out, out, after, ended, noOperation, defineExtent, locate, read, write, readIpl, sense, senseType, readLog, accepted, refusal, refused, seen, decided, step}
 use Rattle.model.proofs.Verdicts.{first-here, first-later, first-none}
 use Rattle.model.proofs.Steps.{early-unit, step-early, step-own, own-define, own-locate, own-read, own-write, own-read-ipl, own-none, accepted-no-operation, accepted-define, accepted-locate, accepted-read, accepted-write, accepted-read-ipl, accepted-sense, accepted-sense-type, accepted-read-log}
-use Rattle.outcomes.specs.Cleared.{cleared}
+use Rattle.endings.specs.Cleared.{cleared}
 
 -- a command with no table of its own is accepted
 none-decided : (c : Ccw) (s : State) (main store : List ℕ) (o : Out) → decided c s main store (firstOf []) o ≡ o

@@ -2,7 +2,7 @@
 use native.Mathlib.Omega.{arith}
 use mathlib.Core.Path.{sym}
 use lib.Seq.{length-take-le}
-use Rattle.digits.proofs.Outputs.{added-within}
+use Rattle.text_digits.proofs.Outputs.{added-within}
 use borrow.Author.Needs.{needs}
 use Rattle.exercise.proofs.main.Statement.{statement}
 use Rattle.exercise.proofs.main.Tie as tie

@@ -1,0 +1,217 @@
+// The input, line by line: whether it is right (`wrong_line`), and what a right one says (`number_at`, `storage_in`, `chain_in`).
+// A line counts with the line feed that ends it.
+use text_digits::decode;
+use text_digits::is_decimal;
+use text_digits::is_hex;
+ghost use mathlib.Core.Path.{_≡_};
+ghost use mathlib.Core.List.{[]};
+ghost use Prim.Native.Nat.{_+_, _-_, _≤_, _<_};
+ghost use lib.ListN.{length, getD, drop};
+ghost use Rattle.slices.specs.Parts.{part, put};
+ghost use Rattle.text_digits.specs.Digits.{bytesIn};
+ghost use Rattle.text_input.specs.Format.{lines, field, keyed, numberIn, numberOf, hexLine, rightLine, wrongLine, Exercise, exerciseIn};
+ghost use Rattle.text_input.specs.Lengths.{lineLength};
+
+const LINE_FEED: u8 = 0x0A;
+
+// The numbers of the first ccw line and of the last that may be.
+const FIRST_CCW: usize = 5;
+
+const LAST_CCW: usize = 36;
+
+// The bytes of a CCW.
+const CCW: usize = 8;
+
+// What the lines before storage say.
+pub struct Settings {
+    pub blocks: usize,
+    pub ready: u8,
+    pub readonly: u8,
+}
+
+// How long the first line is; 0 where there is none.
+fn line_length(input: &[u8]) -> usize
+    ensures { λ r. ⌜ (r ≡ lineLength (now (input .entry))) × (r ≤ length (now (input .entry))) ⌝ }
+{
+    let mut i = 0;
+    while i < input.len() {
+        if input[i] == LINE_FEED {
+            return i + 1;
+        }
+        i += 1;
+    }
+    i
+}
+
+// Whether a line is this key, a value and a line feed.
+fn keyed(line: &[u8], key: &[u8]) -> bool
+    ensures { λ r. ⌜ r ≡ keyed (now (key .entry)) (now (line .entry)) ⌝ }
+{
+    if line.len() <= key.len() {
+        return false;
+    }
+    if line[line.len() - 1] != LINE_FEED {
+        return false;
+    }
+    let n = key.len();
+    check::same(&line[..n], key)
+}
+
+// The number from `least` to `most` whose decimal the text is, or one past `most`.
+fn number_in(text: &[u8], least: usize, most: usize) -> usize
+    requires { ⌜ (least ≤ most) × (most < 100000) ⌝ }
+    ensures { λ r. ⌜ r ≡ numberIn (most + 1 - least) least (now (text .entry)) ⌝ }
+{
+    let mut n = least;
+    while n <= most {
+        if is_decimal(text, n) {
+            return n;
+        }
+        n += 1;
+    }
+    n
+}
+
+// The number in a line with this key, or one past `most`.
+fn number_of(line: &[u8], key: &[u8], least: usize, most: usize) -> usize
+    requires { ⌜ (least ≤ most) × (most < 100000) ⌝ }
+    ensures { λ r. ⌜ r ≡ numberOf (field (now (key .entry)) least most) (now (line .entry)) ⌝ }
+{
+    if keyed(line, key) {
+        let from = key.len();
+        let end = line.len() - 1;
+        number_in(&line[from..end], least, most)
+    } else {
+        most + 1
+    }
+}
+
+// Whether a line has this key and `least` to `most` bytes in hexadecimal.
+fn hex_line(line: &[u8], key: &[u8], least: usize, most: usize) -> bool
+    ensures { λ r. ⌜ r ≡ hexLine (field (now (key .entry)) least most) (now (line .entry)) ⌝ }
+{
+    if !keyed(line, key) {
+        return false;
+    }
+    let from = key.len();
+    let end = line.len() - 1;
+    let n = (end - from) / 2;
+    if n < least {
+        return false;
+    }
+    if most < n {
+        return false;
+    }
+    is_hex(&line[from..end])
+}
+
+// Whether line n is what it must be.
+fn right_line(n: usize, line: &[u8]) -> bool
+    ensures { λ r. ⌜ r ≡ rightLine n (now (line .entry)) ⌝ }
+{
+    if n == 1 {
+        return number_of(line, b"blocks=", 1, 64) <= 64;
+    }
+    if n == 2 {
+        return number_of(line, b"ready=", 0, 1) <= 1;
+    }
+    if n == 3 {
+        return number_of(line, b"readonly=", 0, 1) <= 1;
+    }
+    if n == 4 {
+        return hex_line(line, b"storage=", 0, 1024);
+    }
+    if LAST_CCW < n {
+        return false;
+    }
+    hex_line(line, b"ccw=", 8, 8)
+}
+
+// The number of the first wrong or missing line, or 0.
+pub fn wrong_line(input: &[u8]) -> usize
+    ensures { λ r. ⌜ r ≡ wrongLine (now (input .entry)) ⌝ }
+{
+    let mut at = 0;
+    let mut n = 1;
+    while at < input.len() {
+        let end = at + line_length(&input[at..]);
+        if !right_line(n, &input[at..end]) {
+            return n;
+        }
+        at = end;
+        n += 1;
+    }
+    if FIRST_CCW < n { 0 } else { n }
+}
+
+// Where the line after the first n begins.
+fn line_start(input: &[u8], n: usize) -> usize
+    ensures { λ r. ⌜ (drop n (lines (now (input .entry))) ≡ lines (drop r (now (input .entry)))) × (r ≤ length (now (input .entry))) ⌝ }
+{
+    let mut at = 0;
+    for i in 0..n {
+        at += line_length(&input[at..]);
+    }
+    at
+}
+
+// The number in the line after the first n.
+fn number_at(input: &[u8], n: usize, key: &[u8], least: usize, most: usize) -> usize
+    requires { ⌜ (least ≤ most) × (most < 100000) ⌝ }
+    ensures { λ r. ⌜ (r ≡ numberOf (field (now (key .entry)) least most) (getD (lines (now (input .entry))) n [])) × (r ≤ most + 1) ⌝ }
+{
+    let at = line_start(input, n);
+    let end = at + line_length(&input[at..]);
+    number_of(&input[at..end], key, least, most)
+}
+
+// What the first three lines say.
+pub fn settings_in(input: &[u8]) -> Settings
+    ensures { λ r. ⌜ r ≡ exerciseIn (lines (now (input .entry))) .settings ⌝ }
+{
+    Settings {
+        blocks: number_at(input, 0, b"blocks=", 1, 64),
+        ready: number_at(input, 1, b"ready=", 0, 1) as u8,
+        readonly: number_at(input, 2, b"readonly=", 0, 1) as u8,
+    }
+}
+
+// The bytes in a line, whose key is `from` bytes long, go to `to`, which they fill.
+fn bytes_of(line: &[u8], from: usize, to: &mut [u8])
+    requires { ⌜ length (now line) ≡ from + (length (now to) + length (now to)) + 1 ⌝ }
+    ensures { λ _. ⌜ now (to .exit) ≡ bytesIn (part (now (line .entry)) from (length (now (line .entry)) - (from + 1))) ⌝ }
+{
+    let end = line.len() - 1;
+    decode(&line[from..end], to);
+}
+
+// Main storage goes to the front of `to`, and its length is returned.
+pub fn storage_in(input: &[u8], to: &mut [u8]) -> usize
+    requires { ⌜ (wrongLine (now input) ≡ 0) × (length (now to) ≡ 1024) ⌝ }
+    ensures { λ r. ⌜ (r ≡ length (exerciseIn (lines (now (input .entry))) .storage)) × (now (to .exit) ≡ put (now (to .entry)) 0 (exerciseIn (lines (now (input .entry))) .storage)) ⌝ }
+{
+    let at = line_start(input, 3);
+    let long = line_length(&input[at..]);
+    let end = at + long;
+    let n = (long - 9) / 2;
+    bytes_of(&input[at..end], 8, &mut to[..n]);
+    n
+}
+
+// The chain goes to the front of `to`, and its length is returned.
+pub fn chain_in(input: &[u8], to: &mut [u8]) -> usize
+    requires { ⌜ (wrongLine (now input) ≡ 0) × (length (now to) ≡ 256) ⌝ }
+    ensures { λ r. ⌜ (r ≡ length (exerciseIn (lines (now (input .entry))) .chain)) × (now (to .exit) ≡ put (now (to .entry)) 0 (exerciseIn (lines (now (input .entry))) .chain)) ⌝ }
+{
+    let mut at = line_start(input, 4);
+    let mut n = 0;
+    while at < input.len() {
+        let end = at + line_length(&input[at..]);
+        let from = n * CCW;
+        let upto = from + CCW;
+        bytes_of(&input[at..end], 4, &mut to[from..upto]);
+        at = end;
+        n += 1;
+    }
+    n * CCW
+}
