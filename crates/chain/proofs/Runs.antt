@@ -18,14 +18,14 @@ use Rattle.model.specs.declared.ccw.Ccw.{Ccw}
 use Rattle.model.specs.declared.record.Record.{Record}
 use Rattle.model.specs.State.{State}
 use Rattle.model.specs.Names.{chain-command, INCORRECT-LENGTH}
-use Rattle.model.specs.Rules.{_=?_, pick}
+use Rattle.numbers.specs.Choice.{_=?_, pick}
 use Rattle.model.specs.Lent.{ccwAt, flag, blockCount}
 use Rattle.model.specs.Commands.{Out, step}
 use Rattle.model.specs.Answer.{answerOf}
 use Rattle.model.specs.Chain.{System, system, stepAt, next, more, run, called}
 use Rattle.model.specs.Safe.{Safe}
 use Rattle.numbers.proofs.Joined.{both-true}
-use Rattle.model.proofs.Picks.{pick-true, pick-false}
+use Rattle.numbers.proofs.Choice.{pick-true, pick-false}
 use Rattle.model.proofs.Lengths.{Going, next-going, some-block}
 use Rattle.model.proofs.Endings.{Callable}
 use Rattle.unit_state.specs.Standing.{stateLeft}

@@ -11,7 +11,7 @@ ghost use Prim.Native.Nat.{ℕ, _+_, _*_, _/_, _≤_, _<_};
 ghost use lib.ListN.{length};
 ghost use Rattle.numbers.specs.Big.{bytes8};
 ghost use Rattle.slices.specs.Parts.{put};
-ghost use Rattle.model.specs.Rules.{_=?_};
+ghost use Rattle.numbers.specs.Choice.{_=?_};
 ghost use Rattle.model.specs.Lent.{blockCount};
 ghost use Rattle.model.specs.Chain.{system, next, more, run};
 ghost use Rattle.endings.specs.Report.{marked};

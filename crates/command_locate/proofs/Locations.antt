@@ -7,10 +7,11 @@ use lib.Dec.{ltb, eqb}
 use Rattle.numbers.specs.Bits.{anyBit}
 use Rattle.model.specs.declared.extent.Located.{Located}
 use Rattle.model.specs.State.{State}
-use Rattle.model.specs.Rules.{pick, oneOf, Rule, _when_}
+use Rattle.numbers.specs.Choice.{pick, oneOf}
+use Rattle.model.specs.Rules.{Rule, _when_}
 use Rattle.model.specs.Parameters.{locatedIn, modifiersIn, replicationIn, processed, operations}
 use Rattle.model.specs.Causes.{locationCauses, permissionCauses}
-use Rattle.model.proofs.Picks.{pick-ind}
+use Rattle.numbers.proofs.Choice.{pick-ind}
 use native.Mathlib.Omega.{arith}
 
 -- the lines by the operation byte m, the parameters l and the replication count r

@@ -11,7 +11,7 @@ use borrow.Author.Tests.{ltb-true, eq-eqb, ne-eqb}
 use Rattle.numbers.specs.Bits.{bit, anyBit}
 use Rattle.numbers.proofs.Tables.{values, same-upto}
 use Rattle.numbers.proofs.Bits.{same-on-bytes}
-use Rattle.model.specs.Rules.{oneOf}
+use Rattle.numbers.specs.Choice.{oneOf}
 use Rattle.model.specs.Parameters.{operations, writes, forbidden}
 use Rattle.model.proofs.Steps.{one-of, none-of}
 

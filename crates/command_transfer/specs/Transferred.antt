@@ -12,7 +12,7 @@ use Rattle.model.specs.declared.extent.Extent.{Extent}
 use Rattle.model.specs.declared.state.Before.the-variants.{Other, ReadIpl}
 use Rattle.model.specs.State.{State, Done}
 use Rattle.model.specs.Names.{write-check}
-use Rattle.model.specs.Rules.{_=?_, pick}
+use Rattle.numbers.specs.Choice.{_=?_, pick}
 use Rattle.model.specs.Log.{withSense, readCounted, writtenCounted, movementCounted}
 use Rattle.model.specs.Commands.{after, extentSet, ended, begun}
 

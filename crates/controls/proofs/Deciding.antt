@@ -16,7 +16,8 @@ use Rattle.model.specs.declared.extent.Located.{Located}
 use Rattle.model.specs.declared.record.Record.{Record}
 use Rattle.model.specs.declared.record.Counts.{Counts}
 use Rattle.model.specs.State.{State, Done}
-use Rattle.model.specs.Rules.{pick, firstOf}
+use Rattle.numbers.specs.Choice.{pick}
+use Rattle.model.specs.Rules.{firstOf}
 use Rattle.model.specs.Log.{withSense, movementCounted}
 use Rattle.model.specs.Lent.{fetched}
 use Rattle.model.specs.Parameters.{extentLength, extentIn, locateLength, locatedIn}

@@ -9,7 +9,7 @@ use Rattle.model.specs.declared.ccw.Ccw.{Ccw}
 use Rattle.model.specs.declared.record.Record.{Record}
 use Rattle.model.specs.State as definition
 use Rattle.model.specs.State.{State}
-use Rattle.model.specs.Rules.{pick}
+use Rattle.numbers.specs.Choice.{pick}
 use Rattle.model.specs.Lent.{fetched}
 use Rattle.model.specs.Parameters.{locateLength}
 use Rattle.model.specs.Commands.{Out, out, refusal, refused, decided}

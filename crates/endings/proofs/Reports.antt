@@ -14,7 +14,7 @@ use Rattle.model.specs.declared.ccw.Ccw.{Ccw}
 use Rattle.model.specs.declared.record.Record.{Record}
 use Rattle.model.specs.State.{State}
 use Rattle.model.specs.Names.{ENDED, UNIT-CHECKED, PROGRAM-CHECK, chain-command}
-use Rattle.model.specs.Rules.{_=?_, pick}
+use Rattle.numbers.specs.Choice.{_=?_, pick}
 use Rattle.model.specs.Lent.{flag}
 use Rattle.model.specs.Causes.{programCheck}
 use Rattle.model.specs.declared.state.Before.the-variants.{Other}

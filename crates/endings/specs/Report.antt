@@ -15,7 +15,7 @@ use Rattle.model.specs.declared.record.Record.{Record}
 use Rattle.model.specs.State as definition
 use Rattle.model.specs.State.{State}
 use Rattle.model.specs.Names.{chain-command, INCORRECT-LENGTH}
-use Rattle.model.specs.Rules.{_=?_, pick}
+use Rattle.numbers.specs.Choice.{_=?_, pick}
 use Rattle.model.specs.Lent.{flag}
 use Rattle.model.specs.Commands.{Out}
 use Rattle.model.specs.Answer.{answerOf, goesOn}

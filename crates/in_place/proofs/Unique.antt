@@ -15,7 +15,7 @@ use Rattle.model.specs.declared.ccw.Ccw.{Ccw}
 use Rattle.model.specs.declared.record.Record.{Record}
 use Rattle.model.specs.declared.status.Status.{Status}
 use Rattle.model.specs.declared.status.Channel.{Channel}
-use Rattle.model.specs.Rules.{pick}
+use Rattle.numbers.specs.Choice.{pick}
 use Rattle.command_extent.specs.declared.Defined.{Defined}
 use Rattle.command_extent.specs.declared.Defined.the-variants.{Taken, BadMask, Maintenance, BadSize, FirstAfterLast, PastDevice}
 use Rattle.command_locate.specs.declared.Location.{Location}

@@ -10,7 +10,8 @@ use mathlib.Core.List.{List}
 use lib.ListN.{length}
 use native.Mathlib.Omega.{arith}
 use Rattle.model.specs.declared.record.Record.{Record}
-use Rattle.model.specs.Rules.{pick, firstOf}
+use Rattle.numbers.specs.Choice.{pick}
+use Rattle.model.specs.Rules.{firstOf}
 use Rattle.model.specs.Lent.{recordSize, recordBytes, recordOf}
 use Rattle.model.specs.Causes.{callCauses}
 use Rattle.model.specs.Chain.{Called, classA, call}

@@ -19,7 +19,8 @@ use Rattle.slices.proofs.Laws.{length-zeros, length-part, length-put-is, bytes-
 use Rattle.model.specs.declared.ccw.Ccw.{Ccw}
 use Rattle.model.specs.declared.record.Record.{Record}
 use Rattle.model.specs.State.{State}
-use Rattle.model.specs.Rules.{_<?_, _=?_, pick, Rule, firstOf}
+use Rattle.numbers.specs.Choice.{_<?_, _=?_, pick}
+use Rattle.model.specs.Rules.{Rule, firstOf}
 use Rattle.model.specs.Lent.{fetched, delivered, blockAt, blocksFrom, blocksInto}
 use Rattle.model.specs.Parameters.{locateLength}
 use Rattle.model.specs.Causes.{channelCauses, unitCauses, extentCauses, defineExtentCauses, permissionCauses, locationCauses, locateCauses, readIplCauses, transferCauses, ownCauses, causesOf, verdict}
@@ -27,7 +28,7 @@ use Rattle.model.specs.Sense.{SenseRow, senseTable, rowIn, senseOf}
 use Rattle.model.specs.Log.{withSense, withCounts, added3, added2, readCounted, writtenCounted, movementCounted, logOf, logReset}
 use Rattle.model.specs.Commands.{Out, noOperation, defineExtent, locate, sent, sense, senseType, readLog, begun, read, write, readIpl, refused, refusal, seen, after, extentSet, locateSet, step}
 use Rattle.model.specs.Exactly.{absent}
-use Rattle.model.proofs.Picks.{pick-ind}
+use Rattle.numbers.proofs.Choice.{pick-ind}
 use Rattle.numbers.proofs.Joined.{both-true}
 use Rattle.model.proofs.Verdicts.{peel, never-given}
 use Rattle.model.proofs.Safety.{define-ok, locate-ok}

@@ -23,7 +23,7 @@ use Rattle.model.specs.Lent.{ccwSize, ccwAt, blockCount}
 use Rattle.model.specs.Causes.{callCauses}
 use Rattle.model.specs.Answer.{unitStatus, channelStatus, residual, answerOf}
 use Rattle.model.specs.Chain.{System, system, stepAt, next, run, start, Called, called, callOf}
-use Rattle.model.proofs.Picks.{pick-ind}
+use Rattle.numbers.proofs.Choice.{pick-ind}
 use Rattle.model.proofs.Endings.{callable}
 use Rattle.model.proofs.Lengths.{some-block}
 use Rattle.model.proofs.Fields.{IsRecord, step-fields}

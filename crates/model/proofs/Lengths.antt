@@ -25,7 +25,7 @@ use Rattle.model.specs.Commands.{Out, out, noOperation, defineExtent, lo
 use Rattle.model.specs.Answer.{answerSize, answerOf}
 use Rattle.model.specs.Chain.{System, system, stepAt, next, run, start, Called, called, callOf}
 use Rattle.model.specs.Safe.{Safe}
-use Rattle.model.proofs.Picks.{pick-ind}
+use Rattle.numbers.proofs.Choice.{pick-ind}
 use Rattle.model.proofs.Steps.{Admitted, Cases, step-cases}
 use Rattle.model.proofs.Endings.{callable}
 use Rattle.model.proofs.Safety.{on-device, after-locate, safe-start, step-safe}

@@ -15,7 +15,7 @@ use Rattle.numbers.proofs.Tables.{same-upto}
 use Rattle.slices.specs.Parts.{put}
 use Rattle.slices.proofs.Laws.{length-put, get-before, get-after, by-place}
 use Rattle.model.specs.Names.{DEFINE-EXTENT, LOCATE, READ, WRITE, READ-IPL, write-data, read-data}
-use Rattle.model.specs.Rules.{_=?_}
+use Rattle.numbers.specs.Choice.{_=?_}
 use Rattle.model.specs.Lent.{ccwAt, blockAt, newRecord}
 use Rattle.model.specs.Chain.{Called, call, classA}
 use Rattle.model.specs.Moved.{SameBut, OneExtent, ParametersAlone, Moved}

@@ -15,7 +15,7 @@ use lib.ListN.{length, take, set, replicate}
 use lib.Seq.{take-all}
 use Rattle.slices.specs.Parts.{zeros, put}
 use Rattle.numbers.proofs.Tables.{same-upto}
-use Rattle.model.specs.Rules.{_<?_, pick}
+use Rattle.numbers.specs.Choice.{_<?_, pick}
 use Rattle.model.specs.Sense.{senseTable, rowIn, senseOf}
 use Rattle.model.specs.Sense as table
 use Rattle.numbers.proofs.Joined.{both-true}

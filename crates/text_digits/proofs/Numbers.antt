@@ -10,7 +10,7 @@ use lib.ListN.{length, getD, take, drop, length-append, drop-of-length-le, set}
 use lib.Seq.{take-suc, take-suc-set, take-all, drop-cons}
 use borrow.Author.Tests.{lt-ltb, le-ltb, eqb-true, eq-eqb, ne-eqb}
 use Rattle.numbers.proofs.Joined.{both-true}
-use Rattle.model.specs.Rules.{pick}
+use Rattle.numbers.specs.Choice.{pick}
 use Rattle.text_digits.specs.Digits.{digit, decimalOf, decimal, hex, valueOf, isDigit, allDigits, bytesIn, same}
 
 -- decimal

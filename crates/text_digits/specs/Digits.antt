@@ -15,7 +15,7 @@ use Prim.Native.String.{String, [] as empty, _∷_ as _then_}
 use mathlib.Core.Bool.{Bool, true, false, _&&_}
 use mathlib.Core.List.{List, [], _∷_, _++_}
 use lib.ListN.{length}
-use Rattle.model.specs.Rules.{_<?_, _=?_, pick}
+use Rattle.numbers.specs.Choice.{_<?_, _=?_, pick}
 
 abbrev pub ascii : String → List ℕ
 ascii empty = []

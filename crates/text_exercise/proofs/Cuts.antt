@@ -7,7 +7,7 @@ use lib.Dec.{eqb}
 use lib.ListN.{take}
 use lib.Seq.{take-all}
 use borrow.Author.Tests.{eqb-true}
-use Rattle.model.specs.Rules.{pick}
+use Rattle.numbers.specs.Choice.{pick}
 use Rattle.text_output.specs.Printout.{printout}
 use Rattle.text_input.specs.Format.{lines, wrongLine, exerciseIn}
 use Rattle.text_input.proofs.Cuts.{wrong-cut, right-fits}

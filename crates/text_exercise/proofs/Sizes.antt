@@ -12,11 +12,12 @@ use Rattle.numbers.proofs.Bytes.{bytes-nil, bytes-cons, bytes-append}
 use Rattle.slices.specs.Parts.{zeros}
 use Rattle.slices.proofs.Laws.{length-zeros, bytes-zeros}
 use Rattle.model.specs.declared.record.Record.{Record}
-use Rattle.model.specs.Rules.{pick, firstOf}
+use Rattle.numbers.specs.Choice.{pick}
+use Rattle.model.specs.Rules.{firstOf}
 use Rattle.model.specs.Lent.{newRecord}
 use Rattle.model.specs.Causes.{callCauses}
 use Rattle.model.specs.Chain.{Called, call, callOf}
-use Rattle.model.proofs.Picks.{pick-ind}
+use Rattle.numbers.proofs.Choice.{pick-ind}
 use Rattle.model.proofs.Fields.{IsRecord}
 use Rattle.model.proofs.Kept.{call-bytes}
 use Rattle.model.proofs.Lengths.{call-lengths}

@@ -7,7 +7,7 @@ use Prim.Native.Nat.{ℕ, zero, suc}
 use mathlib.Core.List.{List, [], _++_}
 use lib.ListN.{length, replicate}
 use Rattle.slices.specs.Parts.{zeros}
-use Rattle.model.specs.Rules.{_=?_, pick}
+use Rattle.numbers.specs.Choice.{_=?_, pick}
 use Rattle.model.specs.Lent.{newRecord}
 use Rattle.model.specs.Chain.{Called, call, classA}
 use Rattle.text_input.specs.Format.{lines, wrongLine, Exercise, exerciseIn}

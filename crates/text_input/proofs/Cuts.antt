@@ -13,7 +13,7 @@ use lib.Dec.{eqb, ltb}
 use lib.ListN.{length, take, drop, length-drop}
 use lib.Seq.{take-all, take-nil, take-take, length-take-le}
 use borrow.Author.Tests.{ltb-true, le-ltb}
-use Rattle.model.specs.Rules.{pick}
+use Rattle.numbers.specs.Choice.{pick}
 use Rattle.text_digits.specs.Digits.{decimal, same}
 use Rattle.text_digits.proofs.Numbers.{decimal-short, same-true}
 use Rattle.text_output.specs.Printout.{lineFeed}

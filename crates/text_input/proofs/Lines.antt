@@ -13,7 +13,7 @@ use borrow.Author.Tests.{eq-eqb, ne-eqb}
 use borrow.Rule.Slice.PartMut.{midOf}
 use Rattle.slices.specs.Parts.{part}
 use Rattle.slices.proofs.Laws.{rest-lent}
-use Rattle.model.specs.Rules.{pick}
+use Rattle.numbers.specs.Choice.{pick}
 use Rattle.text_output.specs.Printout.{lineFeed}
 use Rattle.text_input.specs.Format.{onto, lines, rightLine, wrongFrom}
 use Rattle.text_input.specs.Lengths.{lineLength}

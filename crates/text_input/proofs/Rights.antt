@@ -13,7 +13,7 @@ use borrow.Author.Tests.{eqb-true, ltb-true, ltb-false, le-ltb, ne-eqb, not-true
 use borrow.Rule.Slice.PartMut.{midOf, putMid}
 use Rattle.slices.specs.Parts.{part, put}
 use Rattle.slices.proofs.Laws.{length-part, put-lent-whole, take-put}
-use Rattle.model.specs.Rules.{pick}
+use Rattle.numbers.specs.Choice.{pick}
 use Rattle.text_digits.specs.Digits.{isHex, bytesIn}
 use Rattle.numbers.proofs.Joined.{both-true}
 use Rattle.text_input.specs.Format.{Field, lines, blocks, numberOf, storage, ccw, value, bytesOf, hexLine, rightLine, wrongFrom, wrongLine, chainIn, exerciseIn}

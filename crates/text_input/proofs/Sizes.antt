@@ -9,7 +9,7 @@ use lib.ListN.{length, getD, drop}
 use lib.Seq.{getD-drop}
 use Rattle.numbers.specs.Bytes.{AreBytes}
 use Rattle.numbers.proofs.Bytes.{bytes-nil, bytes-cons, bytes-append}
-use Rattle.model.proofs.Picks.{pick-ind}
+use Rattle.numbers.proofs.Choice.{pick-ind}
 use Rattle.text_digits.specs.Digits.{valueOf, bytesIn}
 use Rattle.text_input.specs.Format.{lines, ready, readonly, storage, value, bytesOf, rightLine, wrongFrom, wrongLine, Exercise, chainIn, exerciseIn}
 use Rattle.text_input.proofs.Values.{length-value, number-bounded}

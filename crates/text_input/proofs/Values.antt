@@ -11,8 +11,8 @@ use borrow.Author.Tests.{lt-ltb, le-ltb, ltb-true}
 use borrow.Rule.Slice.PartMut.{midOf}
 use Rattle.slices.specs.Parts.{part}
 use Rattle.slices.proofs.Laws.{length-part}
-use Rattle.model.specs.Rules.{pick}
-use Rattle.model.proofs.Picks.{pick-ind}
+use Rattle.numbers.specs.Choice.{pick}
+use Rattle.numbers.proofs.Choice.{pick-ind}
 use Rattle.text_digits.specs.Digits.{decimal, isHex, same}
 use Rattle.numbers.proofs.Joined.{both-true}
 use Rattle.text_input.specs.Format.{field, keyed, value, numberIn, numberOf, hexLine}

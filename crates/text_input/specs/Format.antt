@@ -13,7 +13,7 @@ use mathlib.Core.Bool.{Bool, false, not, _&&_}
 use mathlib.Core.List.{List, [], _∷_, _++_}
 use lib.ListN.{length, getD, take, drop}
 use Rattle.slices.specs.Parts.{part}
-use Rattle.model.specs.Rules.{_<?_, _=?_, pick}
+use Rattle.numbers.specs.Choice.{_<?_, _=?_, pick}
 use Rattle.text_digits.specs.Digits.{ascii, decimal, isHex, bytesIn, same}
 use Rattle.text_output.specs.Printout.{lineFeed}
 use Rattle.text_input.specs.declared.Settings.{Settings}

@@ -2,7 +2,7 @@
 --     lineLength   the bytes up to the first line feed, with it; all of them where there is none
 use Prim.Native.Nat.{ℕ, suc}
 use mathlib.Core.List.{List, [], _∷_}
-use Rattle.model.specs.Rules.{_=?_, pick}
+use Rattle.numbers.specs.Choice.{_=?_, pick}
 use Rattle.text_output.specs.Printout.{lineFeed}
 
 unfoldable pub lineLength : List ℕ → ℕ

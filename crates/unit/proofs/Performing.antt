@@ -10,7 +10,8 @@ use Rattle.model.specs.declared.ccw.Ccw.{Ccw}
 use Rattle.model.specs.declared.state.Before.the-variants.{Other}
 use Rattle.model.specs.State.{State}
 use Rattle.model.specs.Names.{NO-OPERATION, DEFINE-EXTENT, LOCATE, READ, WRITE, READ-IPL, SENSE, SENSE-TYPE, READ-LOG}
-use Rattle.model.specs.Rules.{_=?_, pick, oneOf, firstOf}
+use Rattle.numbers.specs.Choice.{_=?_, pick, oneOf}
+use Rattle.model.specs.Rules.{firstOf}
 use Rattle.model.specs.Lent.{fetched, blockCount}
 use Rattle.model.specs.Parameters.{extentLength, locateLength, reads, writes}
 use Rattle.model.specs.Causes.{commands, channelCauses, unitCauses, defineExtentCauses, locateCauses, readIplCauses, transferCauses, ownCauses}

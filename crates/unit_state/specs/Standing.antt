@@ -9,7 +9,7 @@ use mathlib.Core.List.{List}
 use Rattle.slices.specs.Parts.{zeros}
 use Rattle.model.specs.declared.record.Record.{Record}
 use Rattle.model.specs.State.{State}
-use Rattle.model.specs.Rules.{_<?_, pick}
+use Rattle.numbers.specs.Choice.{_<?_, pick}
 use Rattle.model.specs.Sense.{senseOf}
 use Rattle.model.specs.Log.{withSense}
 use Rattle.model.specs.Commands.{after}

@@ -39,16 +39,12 @@ fn main() {
         &checks::VECTORS,
     );
     play::group(3, b"Ready, and listed: causes 44 and 43", &listed::VECTORS);
-    play::group(
-        4,
-        b"DEFINE EXTENT: causes 20 to 26",
-        &command_extent::VECTORS,
-    );
+    play::group(4, b"DEFINE EXTENT: causes 20 to 26", &extents::VECTORS);
     play::group(5, b"LOCATE: causes 30 to 39", &locates::VECTORS);
     play::group(
         6,
         b"READ IPL, READ and WRITE: causes 40 to 42",
         &transfers::VECTORS,
     );
-    play::group(7, b"SENSE, SENSE TYPE and the log", &command_sense::VECTORS);
+    play::group(7, b"SENSE, SENSE TYPE and the log", &senses::VECTORS);
 }

@@ -5,7 +5,8 @@ use mathlib.Core.Bool.{not}
 use mathlib.Core.List.{List, [], _∷_}
 use lib.ListN.{drop}
 use borrow.Author.Tests.{lt-ltb, le-ltb}
-use Rattle.model.specs.Rules.{oneOf, Rule, firstOf}
+use Rattle.numbers.specs.Choice.{oneOf}
+use Rattle.model.specs.Rules.{Rule, firstOf}
 use Rattle.model.specs.Parameters.{extentIn, reservedIn, sizeIn}
 use Rattle.model.specs.Causes.{extentCauses}
 use Rattle.model.proofs.Verdicts.{first-here, first-later, first-none}

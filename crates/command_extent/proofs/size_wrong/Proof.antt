@@ -1,7 +1,7 @@
 -- `size_wrong` meets its contract. Assumes nothing.
 use borrow.Author.Tests.{eq-eqb, ne-eqb}
 use mathlib.Core.Bool.{or-false}
-use Rattle.model.specs.Rules.{oneOf}
+use Rattle.numbers.specs.Choice.{oneOf}
 use Rattle.command_extent.proofs.size_wrong.Statement.{statement}
 use Rattle.command_extent.proofs.size_wrong.Tie as tie
 

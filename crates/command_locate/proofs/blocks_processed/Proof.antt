@@ -1,6 +1,6 @@
 -- `blocks_processed` meets its contract. Assumes nothing.
 use borrow.Author.Tests.{eq-eqb, ne-eqb}
-use Rattle.model.specs.Rules.{pick}
+use Rattle.numbers.specs.Choice.{pick}
 use Rattle.command_locate.proofs.blocks_processed.Statement.{statement}
 use Rattle.command_locate.proofs.blocks_processed.Tie as tie
 

@@ -1,6 +1,6 @@
 -- `is_operation` meets its contract. Assumes nothing.
 use borrow.Author.Tests.{ne-eqb}
-use Rattle.model.specs.Rules.{oneOf}
+use Rattle.numbers.specs.Choice.{oneOf}
 use Rattle.command_locate.proofs.is_operation.Statement.{statement}
 use Rattle.command_locate.proofs.is_operation.Tie as tie
 

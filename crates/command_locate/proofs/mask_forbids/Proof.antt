@@ -1,7 +1,7 @@
 -- `mask_forbids` meets its contract. The table is the definition's, entry by entry: one comparison that antt computes (`forbidden-at`). Assumes nothing.
 use mathlib.Core.Path.{sym}
 use borrow.Author.Needs.{needs, fits-under}
-use Rattle.model.specs.Rules.{oneOf}
+use Rattle.numbers.specs.Choice.{oneOf}
 use Rattle.model.specs.Parameters.{forbids}
 use Rattle.command_locate.proofs.Tests.{table-bytes, forbidden-past, forbidden-at}
 use Rattle.command_locate.proofs.mask_forbids.Statement.{statement}

@@ -1,7 +1,7 @@
 -- `write_inhibited` meets its contract. Assumes nothing.
 use Rattle.command_locate.proofs.Tests.{inhibited-last}
 use borrow.Author.Tests.{eq-eqb, ne-eqb}
-use Rattle.model.specs.Rules.{oneOf}
+use Rattle.numbers.specs.Choice.{oneOf}
 use Rattle.command_locate.proofs.write_inhibited.Statement.{statement}
 use Rattle.command_locate.proofs.write_inhibited.Tie as tie
 

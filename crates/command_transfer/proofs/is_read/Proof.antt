@@ -1,7 +1,7 @@
 -- `is_read` meets its contract. Assumes nothing.
 use borrow.Author.Tests.{eq-eqb, ne-eqb}
 use mathlib.Core.Bool.{or-false}
-use Rattle.model.specs.Rules.{oneOf}
+use Rattle.numbers.specs.Choice.{oneOf}
 use Rattle.command_transfer.proofs.is_read.Statement.{statement}
 use Rattle.command_transfer.proofs.is_read.Tie as tie
 

@@ -1,6 +1,6 @@
 -- `written` meets its contract. Assumes nothing.
 use borrow.Author.Tests.{eq-eqb, ne-eqb}
-use Rattle.model.specs.Rules.{pick}
+use Rattle.numbers.specs.Choice.{pick}
 use borrow.Author.Needs.{needs}
 use Rattle.command_transfer.proofs.written.Statement.{statement}
 use Rattle.command_transfer.proofs.written.Tie as tie

@@ -3,7 +3,7 @@ use mathlib.Core.Path.{refl, _∙_}
 use borrow.Author.Needs.{needs}
 use borrow.Author.Tests.{lt-ltb, le-ltb, not-true, not-false}
 use Rattle.slices.proofs.Laws.{put-copy}
-use Rattle.model.specs.Rules.{pick}
+use Rattle.numbers.specs.Choice.{pick}
 use Rattle.unit_state.specs.Standing.{senseNow, senseLeft}
 use Rattle.packing.proofs.pack_sense.Statement.{statement}
 use Rattle.packing.proofs.pack_sense.Tie as tie

@@ -5,7 +5,7 @@ use mathlib.Core.Path.{_≡_, refl, ap, _∙_}
 use native.Mathlib.Omega.{arith}
 use borrow.Author.Needs.{needs}
 use Rattle.numbers.proofs.Tables.{table-at}
-use Rattle.model.specs.Rules.{pick}
+use Rattle.numbers.specs.Choice.{pick}
 use Rattle.model.specs.Sense.{rowIn}
 use Rattle.sense_table.proofs.Stores.{rowOf, row-before, row-past}
 use Rattle.sense_table.proofs.row_of.Statement.{statement}

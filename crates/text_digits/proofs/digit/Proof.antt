@@ -1,6 +1,6 @@
 -- `digits::digit` meets its contract: the two tests are one. Assumes nothing.
 use borrow.Author.Tests.{lt-ltb, le-ltb}
-use Rattle.model.specs.Rules.{pick}
+use Rattle.numbers.specs.Choice.{pick}
 use Rattle.text_digits.specs.Digits.{digit}
 use borrow.Author.Needs.{needs}
 use Rattle.text_digits.proofs.digit.Statement.{statement}

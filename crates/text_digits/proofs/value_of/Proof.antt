@@ -1,7 +1,7 @@
 -- `digits::value_of` meets its contract: the two tests are one. Assumes nothing.
 use borrow.Author.Tests.{lt-ltb, le-ltb}
 use native.Mathlib.Omega.{arith}
-use Rattle.model.specs.Rules.{pick}
+use Rattle.numbers.specs.Choice.{pick}
 use Rattle.text_digits.specs.Digits.{valueOf}
 use borrow.Author.Needs.{needs}
 use Rattle.text_digits.proofs.value_of.Statement.{statement}

@@ -1,6 +1,6 @@
 -- `text::exercise` meets its contract: the number of the first wrong line, or the printout. Assumes nothing.
 use borrow.Author.Tests.{eq-eqb, ne-eqb}
-use Rattle.model.specs.Rules.{pick}
+use Rattle.numbers.specs.Choice.{pick}
 use Rattle.text_exercise.specs.Exercise.{exercise}
 use borrow.Author.Needs.{needs}
 use Rattle.text_exercise.proofs.exercise.Statement.{statement}

@@ -1,7 +1,7 @@
 -- `format::number_of` meets its contract: of a line that has the key, the number in its value. Assumes nothing.
 use native.Mathlib.Omega.{arith}
 use mathlib.Core.Path.{refl}
-use Rattle.model.specs.Rules.{pick}
+use Rattle.numbers.specs.Choice.{pick}
 use Rattle.text_input.specs.Format.{numberOf}
 use Rattle.text_input.proofs.Values.{keyed-long, value-lent}
 use borrow.Author.Needs.{needs}

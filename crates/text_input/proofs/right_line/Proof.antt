@@ -1,7 +1,7 @@
 -- `format::right_line` meets its contract: the line's number picks its rule. Assumes nothing.
 use Rattle.text_input.proofs.Values.{at-most}
 use borrow.Author.Tests.{eq-eqb, ne-eqb, lt-ltb, le-ltb}
-use Rattle.model.specs.Rules.{pick}
+use Rattle.numbers.specs.Choice.{pick}
 use Rattle.text_input.specs.Format.{rightLine}
 use borrow.Author.Needs.{needs}
 use Rattle.text_input.proofs.right_line.Statement.{statement}

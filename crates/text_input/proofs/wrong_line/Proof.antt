@@ -6,7 +6,7 @@ use mathlib.Core.Path.{_≡_, _∙_, sym, refl}
 use lib.ListN.{length, drop}
 use borrow.Author.Tests.{not-true, not-false, lt-ltb, le-ltb}
 use Rattle.slices.proofs.Laws.{rest-lent, part-lent}
-use Rattle.model.specs.Rules.{pick}
+use Rattle.numbers.specs.Choice.{pick}
 use Rattle.text_input.specs.Format.{lines, wrongFrom, wrongLine}
 use Rattle.text_input.proofs.Lines.{line-inside, wrong-at-end, wrong-here, right-here, rest-length}
 use borrow.Author.Needs.{needs}

@@ -6,7 +6,7 @@ use native.Mathlib.Omega.{arith}
 use borrow.Author.Needs.{needs}
 use borrow.Author.Tests.{ne-eqb}
 use mathlib.Core.Bool.{false}
-use Rattle.model.specs.Rules.{oneOf}
+use Rattle.numbers.specs.Choice.{oneOf}
 use Rattle.model.specs.Causes.{commands}
 use Rattle.model.specs.Lent.{blockCount}
 use Rattle.model.specs.Log.{withSense, withCounts}

@@ -1,7 +1,7 @@
 -- `sense_left` meets its contract. Assumes nothing.
 use borrow.Author.Needs.{needs}
 use borrow.Author.Tests.{lt-ltb, le-ltb}
-use Rattle.model.specs.Rules.{pick}
+use Rattle.numbers.specs.Choice.{pick}
 use Rattle.unit_state.specs.Standing.{senseLeft}
 use Rattle.unit_state.proofs.sense_left.Statement.{statement}
 use Rattle.unit_state.proofs.sense_left.Tie as tie

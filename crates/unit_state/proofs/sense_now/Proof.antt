@@ -1,7 +1,7 @@
 -- `sense_now` meets its contract. Assumes nothing.
 use mathlib.Core.Path.{refl}
 use Rattle.slices.specs.Parts.{zeros}
-use Rattle.model.specs.Rules.{pick}
+use Rattle.numbers.specs.Choice.{pick}
 use Rattle.unit_state.specs.Standing.{senseNow}
 use Rattle.unit_state.proofs.sense_now.Statement.{statement}
 use Rattle.unit_state.proofs.sense_now.Tie as tie

@@ -1,6 +1,6 @@
 -- `start` meets its contract. Assumes nothing.
 use mathlib.Core.Path.{refl}
-use Rattle.model.specs.Rules.{pick}
+use Rattle.numbers.specs.Choice.{pick}
 use Rattle.model.specs.Log.{withSense, withCounts}
 use Rattle.model.specs.Chain.{start}
 use Rattle.log.specs.Counts.{counted}
