@@ -5,7 +5,7 @@ ghost use Prim.Native.Nat.{_+_, _%_, _≤_, _<_};
 ghost use lib.ListN.{length};
 ghost use mathlib.Core.List.{[], _∷_};
 ghost use Rattle.text_digits.specs.Digits.{digit, decimal, hex, valueOf, isDigit, isHex, allDigits, bytesIn, same};
-ghost use Rattle.text_digits.specs.Output.{Output, added};
+ghost use Rattle.text_digits.specs.Output.{Adds};
 
 // The character of a digit.
 fn digit(n: u8) -> u8
@@ -25,7 +25,7 @@ fn value_of(c: u8) -> u8
 // Adds a text at a place of the output, as far as it fits, and returns the place after it.
 pub fn add(out: &mut [u8], at: usize, text: &[u8]) -> usize
     requires { ⌜ length (now text) ≤ 65536 ⌝ }
-    ensures { λ r. ⌜ record { next = r; bytes = now (out .exit) } ≡ added (now (out .entry)) at (now (text .entry)) ⌝ }
+    ensures { λ r. ⌜ Adds (now (out .entry)) at (now (text .entry)) r (now (out .exit)) ⌝ }
 {
     if out.len() <= at {
         return at;
@@ -37,7 +37,7 @@ pub fn add(out: &mut [u8], at: usize, text: &[u8]) -> usize
 
 // Adds the last digit of a number.
 fn add_last(out: &mut [u8], at: usize, n: usize) -> usize
-    ensures { λ r. ⌜ record { next = r; bytes = now (out .exit) } ≡ added (now (out .entry)) at (digit (n % 10) ∷ []) ⌝ }
+    ensures { λ r. ⌜ Adds (now (out .entry)) at (digit (n % 10) ∷ []) r (now (out .exit)) ⌝ }
 {
     let last = [digit((n % 10) as u8)];
     add(out, at, &last)
@@ -45,7 +45,7 @@ fn add_last(out: &mut [u8], at: usize, n: usize) -> usize
 
 // Adds a number in decimal: the digits before the last, where there are some, and the last.
 pub fn add_decimal(out: &mut [u8], at: usize, n: usize) -> usize
-    ensures { λ r. ⌜ record { next = r; bytes = now (out .exit) } ≡ added (now (out .entry)) at (decimal n) ⌝ }
+    ensures { λ r. ⌜ Adds (now (out .entry)) at (decimal n) r (now (out .exit)) ⌝ }
 {
     if n <= 9 {
         return add_last(out, at, n);
@@ -56,7 +56,7 @@ pub fn add_decimal(out: &mut [u8], at: usize, n: usize) -> usize
 
 // Adds a byte as two digits.
 fn add_byte(out: &mut [u8], at: usize, b: u8) -> usize
-    ensures { λ r. ⌜ record { next = r; bytes = now (out .exit) } ≡ added (now (out .entry)) at (hex (b ∷ [])) ⌝ }
+    ensures { λ r. ⌜ Adds (now (out .entry)) at (hex (b ∷ [])) r (now (out .exit)) ⌝ }
 {
     let two = [digit(b / 16), digit(b % 16)];
     add(out, at, &two)
@@ -64,7 +64,7 @@ fn add_byte(out: &mut [u8], at: usize, b: u8) -> usize
 
 // Adds bytes in hexadecimal.
 pub fn add_hex(out: &mut [u8], at: usize, bytes: &[u8]) -> usize
-    ensures { λ r. ⌜ record { next = r; bytes = now (out .exit) } ≡ added (now (out .entry)) at (hex (now (bytes .entry))) ⌝ }
+    ensures { λ r. ⌜ Adds (now (out .entry)) at (hex (now (bytes .entry))) r (now (out .exit)) ⌝ }
 {
     let mut next = at;
     for i in 0..bytes.len() {

@@ -2,12 +2,12 @@
 -- Assumes nothing.
 use Prim.Native.Nat.{ℕ, _≤_, _<_}
 use native.Mathlib.Omega.{arith}
-use mathlib.Core.Path.{_≡_, sym, _∙_, ap}
+use mathlib.Core.Path.{_≡_}
+use borrow.Author.Needs.{needs}
 use borrow.Fn.Kinds.{In}
 use borrow.Fn.PlainCycle.{Measures, is, falls, and}
-use Rattle.text_digits.specs.Output.{added}
 use Rattle.text_digits.proofs.Numbers.{decimal-one, decimal-more}
-use Rattle.text_digits.proofs.Outputs.{added-more}
+use Rattle.text_digits.proofs.Outputs.{_then_}
 use Rattle.text_digits.proofs.add_decimal.Reads as reads
 use Rattle.text_digits.proofs.add_decimal.Kinds as kinds
 use Rattle.text_digits.proofs.+add_decimal.Lts-add_decimal as lts
@@ -24,13 +24,10 @@ at t = and 1 kinds.ps (is 1 kinds.ps μ t) reads.Pre
 abbrev below : ℕ → In 1 kinds.ps
 below t = and 1 kinds.ps (falls 1 kinds.ps _<_ μ t) reads.Pre
 
-first-same-length : (t : ℕ) → lts.Need-same-length (last-reads.Asked, last-reads.Learnt, below t, reads.Post) (at t) reads.Post
-first-same-length t c = c .before .before .add-last .kept .0
-
 first-returns : (t : ℕ) → lts.Need-returns (last-reads.Asked, last-reads.Learnt, below t, reads.Post) (at t) reads.Post
 first-returns t c =
-    let a = c .before .before .before .before .before .before .args in
-    c .before .before .add-last .ensures ∙ ap (added (a .out .now) (a .at)) (sym (decimal-one (a .n) (omega (arith, c .before .before .before .before .if1 .taken))))
+    let small = c .before .before .before .before .if1 .taken in
+    rw (decimal-one (c .before .before .before .before .before .before .args .n) (omega (arith, small))) (c .before .before .add-last .ensures)
 
 shorter : (t : ℕ) → lts.Need-add-decimal-requires (last-reads.Asked, last-reads.Learnt, below t, reads.Post) (at t) reads.Post
 shorter t c κs =
@@ -38,23 +35,19 @@ shorter t c κs =
     let k : 10 ≤ c .before .before .before .args .n = c .before .if1 .left in
     (omega (arith, h, k), tt)
 
-rest-same-length : (t : ℕ) → lts.Need-same-length-2 (last-reads.Asked, last-reads.Learnt, below t, reads.Post) (at t) reads.Post
-rest-same-length t c = c .before .before .add-last2 .kept .0 ∙ c .before .before .before .before .before .before .add-decimal .kept .0
-
 rest-returns : (t : ℕ) → lts.Need-returns-2 (last-reads.Asked, last-reads.Learnt, below t, reads.Post) (at t) reads.Post
 rest-returns t c =
-    let a = c .before .before .before .before .before .before .before .before .before .before .args in
-    added-more _ _ _ _ _ _ _ _ (c .before .before .before .before .before .before .add-decimal .ensures) (c .before .before .add-last2 .ensures)
-    ∙ ap (added (a .out .now) (a .at)) (sym (decimal-more (a .n) (c .before .before .before .before .before .before .before .before .if1 .left)))
+    rw (decimal-more _ (c .before .before .before .before .before .before .before .before .if1 .left))
+    (c .before .before .before .before .before .before .add-decimal .ensures then c .before .before .add-last2 .ensures)
 
 pub +add-decimal-spec : {M : Type 1} → statement M
 +add-decimal-spec =
     close μ
     (λ t. lts.spec (last-reads.Asked, last-reads.Learnt, below t, reads.Post) (at t) reads.Post
     (λ c κs. tt)
-    (first-same-length t)
+    (search needs)  -- same-length
     (first-returns t)
     (shorter t)
     (λ c κs. tt)
-    (rest-same-length t)
+    (search needs)  -- same-length-2
     (rest-returns t))

@@ -1,14 +1,14 @@
 -- `digits::add` meets its contract: nothing is added where there is no room, and else as much as fits. Assumes nothing.
-use Rattle.text_digits.proofs.Outputs.{added-none, added-fits}
+use Rattle.text_digits.proofs.Outputs.{adds-none, adds-fits}
 use borrow.Author.Needs.{needs}
 use Rattle.text_digits.proofs.add.Statement.{statement}
 use Rattle.text_digits.proofs.add.Tie as tie
 
 returns : tie.Need-returns
-returns c = added-none _ _ _ (c .if1 .taken)
+returns c = adds-none (c .if1 .taken)
 
 returns-2 : tie.Need-returns-2
-returns-2 c = added-fits _ _ _ _ _ (c .before .before .before .before .least .ensures) (c .before .before .put-at .ensures)
+returns-2 c = adds-fits (c .before .before .before .before .least .ensures) (c .before .before .put-at .ensures)
 
 pub add-spec : {M : Type 1} → statement M
 add-spec =

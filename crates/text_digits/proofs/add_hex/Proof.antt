@@ -2,30 +2,30 @@
 -- Assumes nothing.
 use Prim.Native.Nat.{_≤_, _-_}
 use native.Mathlib.Omega.{arith}
-use mathlib.Core.Path.{_≡_, _∙_, ap, sym}
+use mathlib.Core.Path.{_≡_}
 use lib.ListN.{length, take}
 use lib.Seq.{take-length}
 use Rattle.text_digits.specs.Digits.{hex}
-use Rattle.text_digits.specs.Output.{added}
+use Rattle.text_digits.specs.Output.{Adds}
 use Rattle.text_digits.proofs.Numbers.{hex-none, hex-more}
-use Rattle.text_digits.proofs.Outputs.{added-nil, added-more}
+use Rattle.text_digits.proofs.Outputs.{adds-nil, _then_}
 use borrow.Author.Needs.{needs}
 use Rattle.text_digits.proofs.add_hex.Statement.{statement}
 use Rattle.text_digits.proofs.add_hex.Tie as tie
 
 abbrev Inv-loop : tie.InvT-loop
-Inv-loop out₀ at bytes next₀ i₀ i-end out next i = (i ≤ i-end) × (i-end ≡ length bytes) × (length out ≡ length out₀) × (record { next = next; bytes = out } ≡ added out₀ at (hex (take i bytes)))
+Inv-loop out₀ at bytes next₀ i₀ i-end out next i = (i ≤ i-end) × (i-end ≡ length bytes) × (length out ≡ length out₀) × Adds out₀ at (hex (take i bytes)) next out
 
 abbrev μ-loop : tie.MeasureT-loop
 μ-loop out₀ at bytes next₀ i₀ i-end out next i = i-end - i
 
 loop-holds : tie.Need-loop-holds Inv-loop μ-loop
-loop-holds c = (search needs, search needs, search needs, rw hex-none (added-nil _ _))
+loop-holds c = (search needs, search needs, search needs, rw hex-none adds-nil)
 
 loop-again : tie.Need-loop-again Inv-loop μ-loop
 loop-again c =
     let l = c .before .before .before .before .before .before .loop in
-    (search needs, search needs, search needs, added-more _ _ _ _ _ _ _ _ (l .inv .3) (c .before .before .add-byte .ensures) ∙ ap (added (c .before .before .before .before .before .before .before .before .before .args .out .now) (c .before .before .before .before .before .before .before .before .before .args .at)) (sym (hex-more (c .before .before .before .before .before .before .before .before .before .args .bytes .now) (l .i) (search needs))))
+    (search needs, search needs, search needs, rw (hex-more (c .before .before .before .before .before .before .before .before .before .args .bytes .now) (l .i) (search needs)) (l .inv .3 then c .before .before .add-byte .ensures))
 
 returns : tie.Need-returns Inv-loop μ-loop
 returns c =

@@ -1,14 +1,10 @@
 -- `digits::add_last` meets its contract: the digit's character is added. Assumes nothing.
-use mathlib.Core.List.{[], _∷_}
-use mathlib.Core.Path.{_∙_, ap}
-use Prim.Native.Nat.{ℕ}
-use Rattle.text_digits.specs.Output.{added}
 use borrow.Author.Needs.{needs}
 use Rattle.text_digits.proofs.add_last.Statement.{statement}
 use Rattle.text_digits.proofs.add_last.Tie as tie
 
 returns : tie.Need-returns
-returns c = c .before .before .add .ensures ∙ ap (λ (d : ℕ). added (c .before .before .before .before .before .before .before .args .out .now) (c .before .before .before .before .before .before .before .args .at) (d ∷ [])) (c .before .before .before .before .before .digit .ensures)
+returns c = rw (← (c .before .before .before .before .before .digit .ensures)) (c .before .before .add .ensures)
 
 pub add-last-spec : {M : Type 1} → statement M
 add-last-spec =

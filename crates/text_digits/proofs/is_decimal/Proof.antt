@@ -4,24 +4,24 @@ use mathlib.Core.Path.{sym}
 use native.Mathlib.Omega.{arith}
 use lib.Seq.{length-take-le}
 use Rattle.text_digits.proofs.Numbers.{decimal-short, told-same}
-use Rattle.text_digits.proofs.Outputs.{added-whole}
+use Rattle.text_digits.proofs.Outputs.{adds-whole}
 use borrow.Author.Needs.{needs}
 use Rattle.text_digits.proofs.is_decimal.Statement.{statement}
 use Rattle.text_digits.proofs.is_decimal.Tie as tie
 
 array-share-prefix-digits : tie.Need-array-share-prefix-digits
 array-share-prefix-digits c =
-    let w = added-whole _ _ _ _ (c .before .add-decimal .ensures) (decimal-short (c .before .before .before .before .args .n) (search needs)) in
+    let w = adds-whole (c .before .add-decimal .ensures) (decimal-short (c .before .before .before .before .args .n) (search needs)) in
     omega (arith, w .0, decimal-short (c .before .before .before .before .args .n) (search needs), c .before .add-decimal .kept .0)
 
 slice-aggregate-same : tie.Need-slice-aggregate-same
 slice-aggregate-same c =
-    let w = added-whole _ _ _ _ (c .before .before .add-decimal .ensures) (decimal-short (c .before .before .before .before .before .args .n) (search needs)) in
+    let w = adds-whole (c .before .before .add-decimal .ensures) (decimal-short (c .before .before .before .before .before .args .n) (search needs)) in
     sym (length-take-le _ _ (omega (arith, w .0, decimal-short (c .before .before .before .before .before .args .n) (search needs), c .before .before .add-decimal .kept .0)))
 
 returns : tie.Need-returns
 returns c =
-    let w = added-whole _ _ _ _ (c .before .before .before .add-decimal .ensures) (decimal-short (c .before .before .before .before .before .before .args .n) (search needs)) in
+    let w = adds-whole (c .before .before .before .add-decimal .ensures) (decimal-short (c .before .before .before .before .before .before .args .n) (search needs)) in
     rw (w .1) at (told-same _ _ _ (c .same .ensures .0) (c .same .ensures .1))
 
 pub is-decimal-spec : {M : Type 1} → statement M
