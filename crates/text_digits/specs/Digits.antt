@@ -2,6 +2,7 @@
 --     ascii      the bytes of a text that is written out here
 --     digit      the character of a digit: 0 to 9, then A to F
 --     decimal    a number in decimal
+--     sixDigits  the least number with more than five
 --     hex        bytes in hexadecimal, two digits each
 --     valueOf    the digit that a character stands for; of a character that is no digit, some digit
 --     isDigit    a character stands for a digit exactly where it is that digit's character
@@ -31,6 +32,9 @@ decimalOf (suc fuel) n = pick (n <? 10) (digit n ∷ []) (decimalOf fuel (n / 10
 
 unfoldable pub decimal : ℕ → List ℕ
 decimal n = decimalOf n n
+
+abbrev pub sixDigits : ℕ
+sixDigits = 100000
 
 unfoldable pub hex : List ℕ → List ℕ
 hex [] = []

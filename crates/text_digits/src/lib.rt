@@ -4,8 +4,8 @@ ghost use mathlib.Core.Path.{_≡_};
 ghost use Prim.Native.Nat.{_+_, _%_, _≤_, _<_};
 ghost use lib.ListN.{length};
 ghost use mathlib.Core.List.{[], _∷_};
-ghost use Rattle.text_digits.specs.Digits.{digit, decimal, hex, valueOf, isDigit, isHex, allDigits, bytesIn, same};
-ghost use Rattle.text_digits.specs.Output.{Adds};
+ghost use Rattle.text_digits.specs.Digits.{digit, decimal, sixDigits, hex, valueOf, isDigit, isHex, allDigits, bytesIn, same};
+ghost use Rattle.text_digits.specs.Output.{Adds, mostAtOnce};
 
 // The character of a digit.
 fn digit(n: u8) -> u8
@@ -24,7 +24,7 @@ fn value_of(c: u8) -> u8
 
 // Adds a text at a place of the output, as far as it fits, and returns the place after it.
 pub fn add(out: &mut [u8], at: usize, text: &[u8]) -> usize
-    requires { ⌜ length (now text) ≤ 65536 ⌝ }
+    requires { ⌜ length (now text) ≤ mostAtOnce ⌝ }
     ensures { λ r. ⌜ Adds (now (out .entry)) at (now (text .entry)) r (now (out .exit)) ⌝ }
 {
     if out.len() <= at {
@@ -73,12 +73,15 @@ pub fn add_hex(out: &mut [u8], at: usize, bytes: &[u8]) -> usize
     next
 }
 
+// The most digits of a number that is read.
+const DIGITS: usize = 5;
+
 // Whether a text is a number in decimal, as it would be printed.
 pub fn is_decimal(text: &[u8], n: usize) -> bool
-    requires { ⌜ n < 100000 ⌝ }
+    requires { ⌜ n < sixDigits ⌝ }
     ensures { λ r. ⌜ r ≡ same (now (text .entry)) (decimal n) ⌝ }
 {
-    let mut digits = [0u8; 5];
+    let mut digits = [0u8; DIGITS];
     let end = add_decimal(&mut digits, 0, n);
     check::same(text, &digits[..end])
 }

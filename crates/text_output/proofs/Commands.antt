@@ -9,6 +9,6 @@ pub no-commands : (answers : List ℕ) → commandLines answers 0 ≡ []
 unfolding commandLines
 no-commands answers = refl
 
-pub commands-more : (answers : List ℕ) (n : ℕ) → commandLines answers (n + 1) ≡ commandLines answers n ++ (statusLines answers n ++ countLines answers n)
+pub commands-more : (answers : List ℕ) (n : ℕ) → commandLines answers (n + 1) ≡ commandLines answers n ++ statusLines answers n ++ countLines answers n
 unfolding commandLines
 commands-more answers n = rw add-one

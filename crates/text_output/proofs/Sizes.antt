@@ -1,76 +1,77 @@
 -- How long a printout is at most. No contract cites this file.
+--     Within   a text has no more than n bytes
 use Prim.Native.Nat.{ℕ, zero, suc, _+_, _*_, _≤_, _<_}
 use native.Mathlib.Omega.{arith}
 use mathlib.Core.Path.{_≡_, refl}
 use mathlib.Core.List.{List, [], _∷_, _++_}
-use lib.ListN.{length, getD, length-append}
+use lib.ListN.{length, length-append}
 use Rattle.numbers.specs.Bytes.{AreBytes}
 use Rattle.numbers.specs.Big.{be2}
 use Rattle.numbers.proofs.Bytes.{byte-at}
-use Rattle.text_digits.specs.Digits.{ascii, decimal, hex}
+use Rattle.model.specs.Answer.{answerSize}
+use Rattle.text_digits.specs.Digits.{ascii, decimal, sixDigits, hex}
 use Rattle.text_digits.proofs.Numbers.{decimal-short}
-use Rattle.text_output.specs.Printout.{line, refusal, statusLines, countLines, commandLines, callLines, storageLines, printoutOf}
+use Rattle.text_output.specs.Printout.{line, refusal, statusLines, countLines, commandLines, printoutOf}
 
-line-length : (key value : List ℕ) → length (line key value) ≡ length key + length value + 1
+pub record Within (text : List ℕ) (n : ℕ) : Type 0 where
+  pub is : length text ≤ n
+
+infixl 20 _with_
+_with_ : {a b : List ℕ} {i j : ℕ} → Within a i → Within b j → Within (a ++ b) (i + j)
+_with_ {a} {b} p q = record { is = rw (length-append a b) (omega (arith, p .is, q .is)) }
+
+line-within : (key value : List ℕ) (n : ℕ) → length value ≤ n → Within (line key value) (length key + n + 1)
 unfolding line
-line-length key value = rw (length-append, length-append)
+line-within key value n h = record { is = rw (length-append, length-append) (omega arith) }
 
-number-length : (key : List ℕ) (n : ℕ) → n < 100000 → length (line key (decimal n)) ≤ length key + 6
-number-length key n h = rw line-length (omega (arith, decimal-short n h))
+number-within : (key : List ℕ) (n : ℕ) → n < sixDigits → Within (line key (decimal n)) (length key + 5 + 1)
+number-within key n h = line-within key (decimal n) 5 (decimal-short n h)
 
 hex-length : (bytes : List ℕ) → length (hex bytes) ≡ length bytes + length bytes
 unfolding hex
 hex-length [] = refl
 hex-length (b ∷ bytes) = omega (arith, hex-length bytes)
 
-bytes-length : (key bytes : List ℕ) → length (line key (hex bytes)) ≡ length key + (length bytes + length bytes) + 1
-bytes-length key bytes = rw (line-length, hex-length)
+bytes-within : (key bytes : List ℕ) (n : ℕ) → length bytes ≤ n → Within (line key (hex bytes)) (length key + (n + n) + 1)
+bytes-within key bytes n h = line-within key (hex bytes) (n + n) (rw hex-length (omega arith))
 
-byte-length : (key : List ℕ) (b : ℕ) → length (line key (hex (b ∷ []))) ≤ length key + 3
-byte-length key b = rw bytes-length (omega arith)
-
-three : (a b c : List ℕ) (i j k : ℕ) → length a ≤ i → length b ≤ j → length c ≤ k → length (a ++ b ++ c) ≤ i + j + k
-three a b c i j k p q r = rw (length-append, length-append) (omega arith)
-
-two : (a b : List ℕ) (i j : ℕ) → length a ≤ i → length b ≤ j → length (a ++ b) ≤ i + j
-two a b i j p q = rw length-append (omega arith)
-
-status-length : (answers : List ℕ) (i : ℕ) → i < 32 → length (statusLines answers i) ≤ 14 + 10 + 11
+status-within : (answers : List ℕ) (i : ℕ) → i < 32 → Within (statusLines answers i) 35
 unfolding statusLines
-status-length answers i h =
-    three (line (ascii "command=") (decimal (i + 1))) (line (ascii "status=") (hex (getD answers (i * 8) 0 ∷ []))) (line (ascii "channel=") (hex (getD answers (i * 8 + 1) 0 ∷ []))) 14 10 11
-    (number-length (ascii "command=") (i + 1) (omega arith))
-    (byte-length (ascii "status=") (getD answers (i * 8) 0))
-    (byte-length (ascii "channel=") (getD answers (i * 8 + 1) 0))
+status-within answers i h =
+    number-within (ascii "command=") (i + 1) (omega arith)
+    with bytes-within (ascii "status=") _ 1 (omega arith)
+    with bytes-within (ascii "channel=") _ 1 (omega arith)
 
-be2-below : (l : List ℕ) (at : ℕ) → AreBytes l → be2 l at < 100000
+be2-below : (l : List ℕ) (at : ℕ) → AreBytes l → be2 l at < sixDigits
 be2-below l at b = omega (arith, byte-at l at b, byte-at l (at + 1) b)
 
-count-length : (answers : List ℕ) (i : ℕ) → AreBytes answers → length (countLines answers i) ≤ 15 + 10 + 13
+count-within : (answers : List ℕ) (i : ℕ) → AreBytes answers → Within (countLines answers i) 38
 unfolding countLines
-count-length answers i b =
-    three (line (ascii "residual=") (decimal (be2 answers (i * 8 + 2)))) (line (ascii "why=") (decimal (getD answers (i * 8 + 4) 0))) (line (ascii "blocks=") (decimal (be2 answers (i * 8 + 6)))) 15 10 13
-    (number-length (ascii "residual=") (be2 answers (i * 8 + 2)) (be2-below answers (i * 8 + 2) b))
-    (number-length (ascii "why=") (getD answers (i * 8 + 4) 0) (omega (arith, byte-at answers (i * 8 + 4) b)))
-    (number-length (ascii "blocks=") (be2 answers (i * 8 + 6)) (be2-below answers (i * 8 + 6) b))
+count-within answers i b =
+    let at : ℕ = i * answerSize in
+    number-within (ascii "residual=") _ (be2-below answers (at + 2) b)
+    with number-within (ascii "why=") _ (omega (arith, byte-at answers (at + 4) b))
+    with number-within (ascii "blocks=") _ (be2-below answers (at + 6) b)
 
-commands-length : (answers : List ℕ) (n : ℕ) → n ≤ 32 → AreBytes answers → length (commandLines answers n) ≤ n * 73
+commands-within : (answers : List ℕ) (n : ℕ) → n ≤ 32 → AreBytes answers → Within (commandLines answers n) (n * 73)
 unfolding commandLines
-commands-length answers zero h b = omega arith
-commands-length answers (suc n) h b =
-    let before = commands-length answers n (omega arith) b in
-    let here = two (statusLines answers n) (countLines answers n) 35 38 (status-length answers n (omega arith)) (count-length answers n b) in
-    omega (arith, two (commandLines answers n) (statusLines answers n ++ countLines answers n) (n * 73) 73 before here)
+commands-within answers zero h b = record { is = omega arith }
+commands-within answers (suc n) h b =
+    let more = commands-within answers n (omega arith) b with status-within answers n (omega arith) with count-within answers n b in
+    record { is = omega (arith, more .is) }
 
-pub printout-length : (cause reached : ℕ) (answers main sense : List ℕ) → cause < 100000 → reached ≤ 32 → AreBytes answers → length main ≤ 1024 → length sense ≡ 24
+pub printout-within : (cause reached : ℕ) (answers main sense : List ℕ) → cause < sixDigits → reached ≤ 32 → AreBytes answers → length main ≤ 1024 → length sense ≡ 24
     → length (printoutOf cause reached answers main sense) ≤ 4474
-unfolding printoutOf callLines storageLines
-printout-length cause reached answers main sense c r b m s =
-    let call = two (line (ascii "cause=") (decimal cause)) (line (ascii "reached=") (decimal reached)) 12 14 (number-length (ascii "cause=") cause c) (number-length (ascii "reached=") reached (omega arith)) in
-    let told = commands-length answers reached r b in
-    let left = two (line (ascii "storage=") (hex main)) (line (ascii "sense=") (hex sense)) 2057 55 (rw bytes-length (omega (arith, m))) (rw (bytes-length, s) (omega arith)) in
-    let whole = three (line (ascii "cause=") (decimal cause) ++ line (ascii "reached=") (decimal reached)) (commandLines answers reached) (line (ascii "storage=") (hex main) ++ line (ascii "sense=") (hex sense)) 26 (reached * 73) 2112 call told left in
-    omega (arith, whole, r)
+unfolding printoutOf
+printout-within cause reached answers main sense c r b m s =
+    let whole =
+    number-within (ascii "cause=") cause c
+    with number-within (ascii "reached=") reached (omega arith)
+    with commands-within answers reached r b
+    with bytes-within (ascii "storage=") main 1024 m
+    with bytes-within (ascii "sense=") sense 24 (omega arith)
+    in
+    omega (arith, whole .is, r)
 
-pub refusal-length : (n : ℕ) → n < 100000 → length (refusal n) ≤ 14
-refusal-length n h = number-length (ascii "refused=") n h
+pub refusal-within : (n : ℕ) → n < sixDigits → length (refusal n) ≤ 14
+refusal-within n h = number-within (ascii "refused=") n h .is

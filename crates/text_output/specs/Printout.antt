@@ -4,9 +4,7 @@
 --     statusLines    of a command: "its number, both statuses (hex)"
 --     countLines     of a command: "residual, cause, blocks moved"
 --     commandLines   of each command reached, in order; an output line more for each command has its place in one of the two above
---     callLines      "the call's cause and commands reached"
---     storageLines   "then main storage and sense"
---     printout       of a call, whole
+--     printout       of a call, whole: "the call's cause and commands reached", those of its commands, "then main storage and sense"
 -- Assumes nothing.
 use Prim.Native.Nat.{ℕ, zero, suc, _+_, _*_}
 use mathlib.Core.List.{List, [], _∷_, _++_}
@@ -43,16 +41,15 @@ countLines answers i =
 
 unfoldable pub commandLines : List ℕ → ℕ → List ℕ
 commandLines answers zero = []
-commandLines answers (suc n) = commandLines answers n ++ (statusLines answers n ++ countLines answers n)
-
-unfoldable pub callLines : ℕ → ℕ → List ℕ
-callLines cause reached = line (ascii "cause=") (decimal cause) ++ line (ascii "reached=") (decimal reached)
-
-unfoldable pub storageLines : List ℕ → List ℕ → List ℕ
-storageLines main sense = line (ascii "storage=") (hex main) ++ line (ascii "sense=") (hex sense)
+commandLines answers (suc n) = commandLines answers n ++ statusLines answers n ++ countLines answers n
 
 unfoldable pub printoutOf : ℕ → ℕ → List ℕ → List ℕ → List ℕ → List ℕ
-printoutOf cause reached answers main sense = callLines cause reached ++ commandLines answers reached ++ storageLines main sense
+printoutOf cause reached answers main sense =
+    line (ascii "cause=") (decimal cause)
+    ++ line (ascii "reached=") (decimal reached)
+    ++ commandLines answers reached
+    ++ line (ascii "storage=") (hex main)
+    ++ line (ascii "sense=") (hex sense)
 
 abbrev pub printout : Called → List ℕ
 printout c = printoutOf (c .cause) (c .reached) (c .answers) (c .main) (c .unit .sense)

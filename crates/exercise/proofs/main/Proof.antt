@@ -1,4 +1,4 @@
--- `exercise::main` is safe and ends: what `text::exercise` returns is no more than the output holds. Assumes what io and libc do.
+-- `exercise::main` is safe and ends: what `text_exercise::exercise` returns is no more than the output holds. Assumes what io and libc do.
 use native.Mathlib.Omega.{arith}
 use mathlib.Core.Path.{sym}
 use lib.Seq.{length-take-le}

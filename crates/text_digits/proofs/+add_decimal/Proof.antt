@@ -1,4 +1,4 @@
--- `digits::add_decimal` meets its contract: one digit, or the digits before the last and then the last. The measure is the number.
+-- `text_digits::add_decimal` meets its contract: one digit, or the digits before the last and then the last. The measure is the number.
 -- Assumes nothing.
 use Prim.Native.Nat.{ℕ, _≤_, _<_}
 use native.Mathlib.Omega.{arith}

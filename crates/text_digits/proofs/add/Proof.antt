@@ -1,4 +1,4 @@
--- `digits::add` meets its contract: nothing is added where there is no room, and else as much as fits. Assumes nothing.
+-- `text_digits::add` meets its contract: nothing is added where there is no room, and else as much as fits. Assumes nothing.
 use Rattle.text_digits.proofs.Outputs.{adds-none, adds-fits}
 use borrow.Author.Needs.{needs}
 use Rattle.text_digits.proofs.add.Statement.{statement}

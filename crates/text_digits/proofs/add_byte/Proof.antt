@@ -1,4 +1,4 @@
--- `digits::add_byte` meets its contract: the two digits' characters are added. Assumes nothing.
+-- `text_digits::add_byte` meets its contract: the two digits' characters are added. Assumes nothing.
 use Rattle.text_digits.proofs.Numbers.{hex-one}
 use borrow.Author.Needs.{needs}
 use Rattle.text_digits.proofs.add_byte.Statement.{statement}

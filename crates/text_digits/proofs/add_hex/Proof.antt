@@ -1,4 +1,4 @@
--- `digits::add_hex` meets its contract. The invariant: the first i bytes are added. The measure: the bytes left.
+-- `text_digits::add_hex` meets its contract. The invariant: the first i bytes are added. The measure: the bytes left.
 -- Assumes nothing.
 use Prim.Native.Nat.{_≤_, _-_}
 use native.Mathlib.Omega.{arith}

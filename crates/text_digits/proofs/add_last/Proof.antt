@@ -1,4 +1,4 @@
--- `digits::add_last` meets its contract: the digit's character is added. Assumes nothing.
+-- `text_digits::add_last` meets its contract: the digit's character is added. Assumes nothing.
 use borrow.Author.Needs.{needs}
 use Rattle.text_digits.proofs.add_last.Statement.{statement}
 use Rattle.text_digits.proofs.add_last.Tie as tie

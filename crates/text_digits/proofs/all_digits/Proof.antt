@@ -1,4 +1,4 @@
--- `digits::all_digits` meets its contract. The invariant: whether all are digits is whether those from i on are. The measure: those left.
+-- `text_digits::all_digits` meets its contract. The invariant: whether all are digits is whether those from i on are. The measure: those left.
 -- Assumes nothing.
 use Prim.Native.Nat.{_≤_, _-_}
 use native.Mathlib.Omega.{arith}

@@ -1,4 +1,4 @@
--- `digits::decode` meets its contract. The invariant: the bytes of the text are those written, and those of what is left of it. The measure: the bytes left.
+-- `text_digits::decode` meets its contract. The invariant: the bytes of the text are those written, and those of what is left of it. The measure: the bytes left.
 -- Assumes nothing.
 use Prim.Native.Nat.{ℕ, _≤_, _+_, _-_, _*_}
 use native.Mathlib.Omega.{arith}

@@ -1,4 +1,4 @@
--- `digits::digit` meets its contract: the two tests are one. Assumes nothing.
+-- `text_digits::digit` meets its contract: the two tests are one. Assumes nothing.
 use borrow.Author.Tests.{lt-ltb, le-ltb}
 use Rattle.numbers.specs.Choice.{pick}
 use Rattle.text_digits.specs.Digits.{digit}

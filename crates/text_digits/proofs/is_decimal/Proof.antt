@@ -1,4 +1,4 @@
--- `digits::is_decimal` meets its contract: the number is printed, which takes five digits at most, and the two texts are compared.
+-- `text_digits::is_decimal` meets its contract: the number is printed, which takes five digits at most, and the two texts are compared.
 -- Assumes nothing.
 use mathlib.Core.Path.{sym}
 use native.Mathlib.Omega.{arith}

@@ -1,4 +1,4 @@
--- `digits::is_hex` meets its contract: the two tests, in turn. Assumes nothing.
+-- `text_digits::is_hex` meets its contract: the two tests, in turn. Assumes nothing.
 use borrow.Author.Tests.{eq-eqb, ne-eqb}
 use Rattle.text_digits.specs.Digits.{isHex}
 use borrow.Author.Needs.{needs}

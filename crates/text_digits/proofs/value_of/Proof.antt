@@ -1,4 +1,4 @@
--- `digits::value_of` meets its contract: the two tests are one. Assumes nothing.
+-- `text_digits::value_of` meets its contract: the two tests are one. Assumes nothing.
 use borrow.Author.Tests.{lt-ltb, le-ltb}
 use native.Mathlib.Omega.{arith}
 use Rattle.numbers.specs.Choice.{pick}

@@ -1,4 +1,4 @@
--- `text::exercise` meets its contract: the number of the first wrong line, or the printout. Assumes nothing.
+-- `text_exercise::exercise` meets its contract: the number of the first wrong line, or the printout. Assumes nothing.
 use borrow.Author.Tests.{eq-eqb, ne-eqb}
 use Rattle.numbers.specs.Choice.{pick}
 use Rattle.text_exercise.specs.Exercise.{exercise}

@@ -1,4 +1,4 @@
--- `text::number_blocks` meets its contract. The invariant: the first i bytes are those of the device. The measure: the bytes left.
+-- `text_exercise::number_blocks` meets its contract. The invariant: the first i bytes are those of the device. The measure: the bytes left.
 -- Assumes nothing.
 use Prim.Native.Nat.{_≤_, _-_, _*_}
 use native.Mathlib.Omega.{arith}

@@ -1,4 +1,4 @@
--- `text::perform` meets its contract: chain and main storage are what the input says. Assumes nothing.
+-- `text_exercise::perform` meets its contract: chain and main storage are what the input says. Assumes nothing.
 use native.Mathlib.Omega.{arith}
 use mathlib.Core.Path.{_∙_, sym}
 use lib.Seq.{length-take-le}

@@ -1,4 +1,4 @@
--- `text::run` meets its contract: the run's one number is taken apart, and the call printed. Assumes nothing.
+-- `text_exercise::run` meets its contract: the run's one number is taken apart, and the call printed. Assumes nothing.
 use mathlib.Core.List.{List}
 use Prim.Native.Nat.{ℕ}
 use Rattle.model.specs.Chain.{call}

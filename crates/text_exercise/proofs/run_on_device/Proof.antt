@@ -1,4 +1,4 @@
--- `text::run_on_device` meets its contract: the store is the device, and the unit is new, as the settings have them. Assumes nothing.
+-- `text_exercise::run_on_device` meets its contract: the store is the device, and the unit is new, as the settings have them. Assumes nothing.
 use Prim.Native.Nat.{_≤_, _*_}
 use native.Mathlib.Omega.{arith}
 use mathlib.Core.Path.{_≡_, _∙_, ap, sym}

@@ -1,4 +1,4 @@
--- `format::bytes_of` meets its contract: the value is decoded. Assumes nothing.
+-- `text_input::bytes_of` meets its contract: the value is decoded. Assumes nothing.
 use Prim.Native.Nat.{_+_, _-_}
 use native.Mathlib.Omega.{arith}
 use mathlib.Core.Path.{_≡_}

@@ -1,4 +1,4 @@
--- `format::chain_in` meets its contract. The invariant: the lines from `at` on are right, and the chain is what stands in `to`, then what they say. The measure: the bytes left.
+-- `text_input::chain_in` meets its contract. The invariant: the lines from `at` on are right, and the chain is what stands in `to`, then what they say. The measure: the bytes left.
 -- Assumes nothing.
 use Prim.Native.Nat.{_+_, _≤_, _-_, _*_}
 use native.Mathlib.Omega.{arith}

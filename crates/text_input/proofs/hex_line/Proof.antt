@@ -1,4 +1,4 @@
--- `format::hex_line` meets its contract: the tests, in turn, of a line that is longer than its key. Assumes nothing.
+-- `text_input::hex_line` meets its contract: the tests, in turn, of a line that is longer than its key. Assumes nothing.
 use native.Mathlib.Omega.{arith}
 use mathlib.Core.Path.{refl}
 use borrow.Author.Tests.{not-true, not-false}

@@ -1,4 +1,4 @@
--- `format::keyed` meets its contract: the three tests, in turn. Assumes nothing.
+-- `text_input::keyed` meets its contract: the three tests, in turn. Assumes nothing.
 use native.Mathlib.Omega.{arith}
 use mathlib.Core.Path.{sym}
 use borrow.Author.Tests.{lt-ltb, le-ltb, eq-eqb, ne-eqb}

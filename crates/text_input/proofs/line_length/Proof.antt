@@ -1,4 +1,4 @@
--- `format::line_length` meets its contract. The invariant: the line is i bytes, and the line that begins there. The measure: the bytes left.
+-- `text_input::line_length` meets its contract. The invariant: the line is i bytes, and the line that begins there. The measure: the bytes left.
 -- Assumes nothing.
 use Prim.Native.Nat.{_+_, _≤_, _-_}
 use native.Mathlib.Omega.{arith}

@@ -1,4 +1,4 @@
--- `format::line_start` meets its contract. The invariant: the lines after the first i are those of the input from `at` on. The measure: the lines left.
+-- `text_input::line_start` meets its contract. The invariant: the lines after the first i are those of the input from `at` on. The measure: the lines left.
 -- Assumes nothing.
 use Prim.Native.Nat.{_≤_, _-_}
 use native.Mathlib.Omega.{arith}

@@ -1,4 +1,4 @@
--- `format::number_at` meets its contract: the line is found, and its number read. Assumes nothing.
+-- `text_input::number_at` meets its contract: the line is found, and its number read. Assumes nothing.
 use mathlib.Core.Path.{_∙_, ap, sym}
 use Rattle.slices.proofs.Laws.{rest-lent, part-lent}
 use Rattle.text_input.specs.Format.{field, numberOf}

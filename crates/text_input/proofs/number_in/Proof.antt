@@ -1,4 +1,4 @@
--- `format::number_in` meets its contract. The invariant: the number is none of those before n, so it is the first of those from n on. The measure: those left.
+-- `text_input::number_in` meets its contract. The invariant: the number is none of those before n, so it is the first of those from n on. The measure: those left.
 -- Assumes nothing.
 use Prim.Native.Nat.{_+_, _≤_, _<_, _-_}
 use mathlib.Core.Path.{_≡_, _∙_, sym}

@@ -1,4 +1,4 @@
--- `format::number_of` meets its contract: of a line that has the key, the number in its value. Assumes nothing.
+-- `text_input::number_of` meets its contract: of a line that has the key, the number in its value. Assumes nothing.
 use native.Mathlib.Omega.{arith}
 use mathlib.Core.Path.{refl}
 use Rattle.numbers.specs.Choice.{pick}

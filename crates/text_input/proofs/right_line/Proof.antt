@@ -1,4 +1,4 @@
--- `format::right_line` meets its contract: the line's number picks its rule. Assumes nothing.
+-- `text_input::right_line` meets its contract: the line's number picks its rule. Assumes nothing.
 use Rattle.text_input.proofs.Values.{at-most}
 use borrow.Author.Tests.{eq-eqb, ne-eqb, lt-ltb, le-ltb}
 use Rattle.numbers.specs.Choice.{pick}

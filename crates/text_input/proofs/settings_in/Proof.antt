@@ -1,4 +1,4 @@
--- `format::settings_in` meets its contract: each field is the number in its line. Assumes nothing.
+-- `text_input::settings_in` meets its contract: each field is the number in its line. Assumes nothing.
 use Rattle.text_input.specs.Format.{exerciseIn}
 use borrow.Author.Needs.{needs}
 use Rattle.text_input.proofs.settings_in.Statement.{statement}

@@ -1,4 +1,4 @@
--- `format::storage_in` meets its contract: line 4 is there and right, so its bytes fit and are decoded. Assumes nothing.
+-- `text_input::storage_in` meets its contract: line 4 is there and right, so its bytes fit and are decoded. Assumes nothing.
 use Prim.Native.Nat.{ℕ, _-_, _/_}
 use Rattle.text_input.proofs.Rights.{storage-is, storage-put}
 use native.Mathlib.Omega.{arith}

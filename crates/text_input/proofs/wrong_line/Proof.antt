@@ -1,4 +1,4 @@
--- `format::wrong_line` meets its contract. The invariant: the lines before n are right, so the first wrong line is the first from n on. The measure: the bytes left.
+-- `text_input::wrong_line` meets its contract. The invariant: the lines before n are right, so the first wrong line is the first from n on. The measure: the bytes left.
 -- Assumes nothing.
 use Prim.Native.Nat.{_+_, _≤_, _-_}
 use native.Mathlib.Omega.{arith}

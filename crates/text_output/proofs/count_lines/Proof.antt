@@ -1,5 +1,5 @@
--- `printout::count_lines` meets its contract: the three lines are added in turn, of the numbers that the answer holds. Assumes nothing.
-use Rattle.text_digits.proofs.Outputs.{added-three}
+-- `text_output::count_lines` meets its contract: the three lines are added in turn, of the numbers that the answer holds. Assumes nothing.
+use Rattle.text_digits.proofs.Outputs.{_then_}
 use Rattle.text_output.specs.Printout.{countLines}
 use borrow.Author.Needs.{needs}
 use Rattle.text_output.proofs.count_lines.Statement.{statement}
@@ -7,7 +7,7 @@ use Rattle.text_output.proofs.count_lines.Tie as tie
 
 returns : tie.Need-returns
 unfolding countLines
-returns c = rw (← (c .before .before .before .before .before .before .before .before .before .before .before .before .before .before .before .before .before .before .be2 .ensures .0), ← (c .before .before .before .before .before .before .before .before .before .before .before .before .before .before .before .before .wide .ensures .0), ← (c .before .before .before .before .before .before .before .before .before .before .before .before .before .before .before .be22 .ensures .0)) (added-three _ _ _ _ _ _ _ _ _ _ _ (c .before .before .before .before .before .before .before .before .before .before .before .before .number-line .ensures) (c .before .before .before .before .before .before .before .number-line2 .ensures) (c .before .before .number-line3 .ensures))
+returns c = rw (← (c .before .before .before .before .before .before .before .before .before .before .before .before .before .before .before .before .before .before .be2 .ensures .0), ← (c .before .before .before .before .before .before .before .before .before .before .before .before .before .before .before .before .wide .ensures .0), ← (c .before .before .before .before .before .before .before .before .before .before .before .before .before .before .before .be22 .ensures .0)) (c .before .before .before .before .before .before .before .before .before .before .before .before .number-line .ensures then c .before .before .before .before .before .before .before .number-line2 .ensures then c .before .before .number-line3 .ensures)
 
 pub count-lines-spec : {M : Type 1} → statement M
 count-lines-spec =

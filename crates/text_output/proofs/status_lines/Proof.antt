@@ -1,5 +1,5 @@
--- `printout::status_lines` meets its contract: the three lines are added in turn. Assumes nothing.
-use Rattle.text_digits.proofs.Outputs.{added-three}
+-- `text_output::status_lines` meets its contract: the three lines are added in turn. Assumes nothing.
+use Rattle.text_digits.proofs.Outputs.{_then_}
 use Rattle.text_output.specs.Printout.{statusLines}
 use borrow.Author.Needs.{needs}
 use Rattle.text_output.proofs.status_lines.Statement.{statement}
@@ -7,7 +7,7 @@ use Rattle.text_output.proofs.status_lines.Tie as tie
 
 returns : tie.Need-returns
 unfolding statusLines
-returns c = added-three _ _ _ _ _ _ _ _ _ _ _ (c .before .before .before .before .before .before .before .before .before .before .before .before .before .before .number-line .ensures) (c .before .before .before .before .before .before .before .before .bytes-line .ensures) (c .before .before .bytes-line2 .ensures)
+returns c = c .before .before .before .before .before .before .before .before .before .before .before .before .before .before .number-line .ensures then c .before .before .before .before .before .before .before .before .bytes-line .ensures then c .before .before .bytes-line2 .ensures
 
 pub status-lines-spec : {M : Type 1} → statement M
 status-lines-spec =
