@@ -18,7 +18,7 @@ use Rattle.text_digits.specs.Digits.{decimal, same}
 use Rattle.text_digits.proofs.Numbers.{decimal-short, same-true}
 use Rattle.text_output.specs.Printout.{lineFeed}
 use Rattle.text_input.specs.Format.{Field, lines, blocks, ready, readonly, storage, ccw, keyed, value, numberIn, numberOf, rightLine, wrongFrom, wrongLine}
-use Rattle.text_input.specs.Lengths.{lineLength}
+use Rattle.text_input.specs.Reads.{lineLength}
 use Rattle.text_input.proofs.Lines.{cons-lines, line-fits, some-line}
 use Rattle.text_input.proofs.Values.{length-value, keyed-long}
 use Rattle.text_input.proofs.Rights.{hex-is, all-right, storage-right, ccw-right}
@@ -75,13 +75,13 @@ third-length l e =
 
 fourth-length : (l : List ℕ) → rightLine 4 l ≡ true → length l ≤ 2057
 fourth-length l e =
-    let is = hex-is storage l _ (storage-right l e) refl in
+    let is = hex-is storage l (storage-right l e) in
     omega (arith, is .0, is .2)
 
 later-length : (k : ℕ) (l : List ℕ) → rightLine (5 + k) l ≡ true → (length l ≤ 21) × (k < 32)
 later-length k l e =
     let right = ccw-right k l e in
-    let is = hex-is ccw l _ (right .0) refl in
+    let is = hex-is ccw l (right .0) in
     (omega (arith, is .0, is .2), right .1)
 
 room-later : (n : ℕ) → 5 ≤ n → room n ≡ (37 - n) * 21

@@ -16,7 +16,7 @@ use Rattle.slices.proofs.Laws.{rest-lent}
 use Rattle.numbers.specs.Choice.{pick}
 use Rattle.text_output.specs.Printout.{lineFeed}
 use Rattle.text_input.specs.Format.{onto, lines, rightLine, wrongFrom}
-use Rattle.text_input.specs.Lengths.{lineLength}
+use Rattle.text_input.specs.Reads.{lineLength}
 
 -- the length of a line
 

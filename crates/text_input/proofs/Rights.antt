@@ -1,25 +1,25 @@
 -- What follows of an input with no wrong line: each line that is looked at is there, and is right. No contract cites this file.
 use Prim.Native.Nat.{ℕ, zero, suc, _+_, _-_, _/_, _%_, _≤_, _<_}
-use native.Mathlib.Nat.{add-zero, zero-add}
-use native.Mathlib.Decide.{decLe}
+use native.Mathlib.Nat.{add-zero}
 use native.Mathlib.Omega.{arith}
-use mathlib.Core.Path.{_≡_, refl, sym, ap, _∙_}
+use mathlib.Core.Path.{_≡_, refl, sym, _∙_}
 use mathlib.Core.Bool.{Bool, true, false, false≢true}
-use mathlib.Core.List.{List, [], _∷_, _++_, append-assoc}
+use mathlib.Core.List.{List, [], _∷_}
 use lib.Dec.{ltb}
-use lib.ListN.{length, take, drop, length-append, drop-of-length-le, take-append-drop}
-use lib.Seq.{drop-drop, drop-at, length-take-le}
+use lib.ListN.{length, getD, drop, drop-of-length-le}
+use lib.Seq.{getD-drop}
 use borrow.Author.Tests.{eqb-true, ltb-true, ltb-false, le-ltb, ne-eqb, not-true}
 use borrow.Rule.Slice.PartMut.{midOf, putMid}
-use Rattle.slices.specs.Parts.{part, put}
-use Rattle.slices.proofs.Laws.{length-part, put-lent-whole, take-put}
+use Rattle.slices.specs.Parts.{part}
+use Rattle.slices.proofs.Laws.{length-part, put-lent-front}
 use Rattle.numbers.specs.Choice.{pick}
 use Rattle.text_digits.specs.Digits.{isHex, bytesIn}
 use Rattle.numbers.proofs.Joined.{both-true}
 use Rattle.text_input.specs.Format.{Field, lines, blocks, numberOf, storage, ccw, value, bytesOf, hexLine, rightLine, wrongFrom, wrongLine, chainIn, exerciseIn}
-use Rattle.text_input.specs.Lengths.{lineLength}
-use Rattle.text_input.proofs.Lines.{no-lines, line-at, lines-at, line-inside}
+use Rattle.text_input.specs.Reads.{lineLength, held, ReadTo}
+use Rattle.text_input.proofs.Lines.{no-lines, lines-at, line-inside}
 use Rattle.text_input.proofs.Values.{length-value, keyed-long}
+use Rattle.text_input.proofs.Reading.{decoded-length, Goes, goes-more}
 
 -- of lines that are all right
 
@@ -48,13 +48,6 @@ pub right-from : (input : List ℕ) (i at : ℕ) → i ≤ 4 → wrongLine input
 unfolding wrongLine
 right-from input i at h e f = rw f at (later-right i 1 (lines input) (omega arith) (omega arith) e)
 
--- such a line is there, where it must be, and is right
-pub right-there : (input : List ℕ) (at n : ℕ) → 1 ≤ n → n ≤ 5 → wrongFrom n (lines (drop at input)) ≡ 0 → at < length input
-right-there input at n h m e = elim (decLe (length input) at) [
-  | yes l ↦ absurd (missing n h m (rw (drop-of-length-le input l, no-lines) at e))
-  | no l ↦ omega (arith, l)
-]
-
 pub right-here : (input : List ℕ) (at n k : ℕ) → 1 ≤ n → at < length input → k ≡ lineLength (drop at input) → wrongFrom n (lines (drop at input)) ≡ 0
     → (rightLine n (part input at k) ≡ true) × (wrongFrom (n + 1) (lines (drop (at + k) input)) ≡ 0)
 right-here input at n k h m f e = all-right n (part input at k) (lines (drop (at + k) input)) h (rw (lines-at input at k f m) at e)
@@ -65,10 +58,10 @@ ccw-picked true right e = absurd (false≢true e)
 ccw-picked false right e = (refl, e)
 
 -- a line of bytes: its length, and that there are not too many
-pub hex-is : (f : Field) (l : List ℕ) (n : ℕ) → hexLine f l ≡ true → n ≡ (length l - (length (f .key) + 1)) / 2
-    → (length l ≡ length (f .key) + (n + n) + 1) × (f .least ≤ n) × (n ≤ f .most)
+pub hex-is : (f : Field) (l : List ℕ) → hexLine f l ≡ true
+    → (length l ≡ length (f .key) + (held l (length (f .key)) + held l (length (f .key))) + 1) × (f .least ≤ held l (length (f .key))) × (held l (length (f .key)) ≤ f .most)
 unfolding hexLine isHex
-hex-is f l n e h =
+hex-is f l e =
     let parts = both-true _ _ e in
     let most = both-true _ _ (parts .0) in
     let least = both-true _ _ (most .0) in
@@ -95,71 +88,37 @@ pub chain-done : (input : List ℕ) (at : ℕ) → length input ≤ at → chain
 unfolding chainIn
 chain-done input at h = rw (drop-of-length-le input h, no-lines)
 
--- the bytes of one more ccw line are put after those before
-pub chain-more : (input to back : List ℕ) (at n k : ℕ) (all : List ℕ) → all ≡ take n to ++ chainIn (lines (drop at input)) → at < length input → k ≡ lineLength (drop at input)
-    → back ≡ bytesIn (part (part input at k) 4 (length (part input at k) - (4 + 1))) → length back ≡ length (midOf n (n + 8 - n) to) → length back ≡ 8 → n + 8 ≤ length to
-    → all ≡ take (n + 8) (putMid n (n + 8 - n) to back) ++ chainIn (lines (drop (at + k) input))
+-- the bytes of one more ccw line go after those before
+pub chain-more : {first all : List ℕ} (input to : List ℕ) {back : List ℕ} (at n k : ℕ) {r : ℕ} → k ≡ lineLength (drop at input) → at < length input → length (part input at k) ≡ 21 → n + 8 ≤ length to
+    → ReadTo (midOf n (length to - n) to) (bytesIn (part (part input at k) 4 (length (part input at k) - (4 + 1)))) r back
+    → Goes first all to n (chainIn (lines (drop at input))) → Goes first all (putMid n (length to - n) to back) (n + 8) (chainIn (lines (drop (at + k) input)))
 unfolding chainIn bytesOf value
-chain-more input to back at n k all e h f g w v m =
-    let whole : putMid n (n + 8 - n) to back ≡ put to n back = put-lent-whole to back n 8 w m in
-    let front : take (n + 8) (put to n back) ≡ take n to ++ back = take-put to n back 8 v m in
-    e ∙ rw (lines-at input at k f h, whole, front, ← g) (sym (append-assoc (take n to) back _))
+chain-more input to {back} at n k f h m fits read g =
+    let line : List ℕ = part input at k in
+    let bytes : List ℕ = bytesIn (part line 4 (length line - (4 + 1))) in
+    let eight : length bytes ≡ 8 = decoded-length _ ∙ rw (length-part line 4 (length line - (4 + 1)) (omega (arith, m)), m) in
+    rw eight at (goes-more bytes _ (rw (lines-at input at k f h) at g) (put-lent-front to bytes back n (length to - n) (read .front) (omega (arith, eight)) (omega (arith, eight))) (omega arith))
 
--- the line of main storage, and the bytes in it
-pub storage-is : (input : List ℕ) (at k n : ℕ) → wrongLine input ≡ 0 → drop 3 (lines input) ≡ lines (drop at input) → k ≡ lineLength (drop at input) → n ≡ (k - 9) / 2
-    → (k ≡ 8 + (n + n) + 1) × (n ≤ 1024) × (at + k ≤ length input) × (bytesOf storage (part input at k) ≡ exerciseIn (lines input) .storage)
-unfolding exerciseIn
-storage-is input at k n e f g h =
-    let w = right-from input 3 at (omega arith) e f in
-    let there = right-there input at 4 (omega arith) (omega arith) w in
-    let inside = line-inside input at k g there in
-    let long : length (part input at k) ≡ k = length-part input at k (inside .1) in
-    let is = hex-is storage (part input at k) n (storage-right _ (right-here input at 4 k (omega arith) there g w .0)) (rw long h) in
-    (rw long at (is .0), is .2, inside .1, ap (bytesOf storage) (sym (line-at input 3 at k f g)))
+-- the line of main storage
+storage-first : (ls : List (List ℕ)) → wrongFrom 4 ls ≡ 0 → hexLine storage (getD ls 0 []) ≡ true
+storage-first [] e = absurd (missing 4 (omega arith) (omega arith) e)
+storage-first (l ∷ ls) e = storage-right l (all-right 4 l ls (omega arith) e .0)
+
+pub storage-line : (input : List ℕ) → wrongLine input ≡ 0 → hexLine storage (getD (lines input) 3 []) ≡ true
+unfolding wrongLine
+storage-line input e = rw (sym (getD-drop 3 (lines input) 0 [])) (storage-first (drop 3 (lines input)) (later-right 3 1 (lines input) (omega arith) (omega arith) e))
 
 -- the line of a CCW, and how many there are
 pub ccw-is : (input : List ℕ) (at n k : ℕ) → wrongFrom (5 + n) (lines (drop at input)) ≡ 0 → at < length input → k ≡ lineLength (drop at input)
-    → (k ≡ 4 + 16 + 1) × (n < 32) × (at + k ≤ length input) × (wrongFrom (5 + (n + 1)) (lines (drop (at + k) input)) ≡ 0)
+    → (length (part input at k) ≡ 21) × (k ≡ 21) × (n < 32) × (at + k ≤ length input) × (wrongFrom (5 + (n + 1)) (lines (drop (at + k) input)) ≡ 0)
 ccw-is input at n k e there g =
     let inside = line-inside input at k g there in
     let long : length (part input at k) ≡ k = length-part input at k (inside .1) in
     let here = right-here input at (5 + n) k (omega arith) there g e in
     let right = ccw-right n _ (here .0) in
-    let half : ℕ = (k - 5) / 2 in
-    let is = hex-is ccw (part input at k) half (right .0) (rw long refl) in
-    let eight : half ≡ 8 = omega (arith, is .1, is .2) in
-    let length-is : k ≡ 4 + (half + half) + 1 = rw long at (is .0) in
+    let is = hex-is ccw (part input at k) (right .0) in
     let next : 5 + n + 1 ≡ 5 + (n + 1) = omega arith in
-    (omega (arith, length-is, eight), right .1, inside .1, rw next at (here .1))
-
-pub chain-start : (input to : List ℕ) (at : ℕ) → drop 4 (lines input) ≡ lines (drop at input) → exerciseIn (lines input) .chain ≡ take 0 to ++ chainIn (lines (drop at input))
-unfolding exerciseIn
-chain-start input to at e = ap chainIn e
-
--- the bytes that were decoded to the front
-pub storage-put : (to back line all : List ℕ) (n : ℕ) → back ≡ bytesIn (part line 8 (length line - (8 + 1))) → bytesOf storage line ≡ all → length back ≡ n
-    → (n ≡ length all) × (back ++ drop n to ≡ put to 0 all)
-unfolding bytesOf value put
-storage-put to back line all n e f h =
-    let is : back ≡ all = e ∙ f in
-    let long : length all ≡ n = rw is at h in
-    (sym long, rw (is, zero-add, long))
-
--- what stands after the bytes of one more ccw line is as it was
-pub chain-rest : (to first back : List ℕ) (n : ℕ) → drop n to ≡ drop n first → length back ≡ length (midOf n (n + 8 - n) to) → length back ≡ 8 → n + 8 ≤ length to
-    → drop (n + 8) (putMid n (n + 8 - n) to back) ≡ drop (n + 8) first
-unfolding put
-chain-rest to first back n e w v m =
-    let front : length (take n to ++ back) ≡ n + 8 = rw (length-append, length-take-le n to (omega arith), v) in
-    let whole : putMid n (n + 8 - n) to back ≡ take n to ++ back ++ drop (n + 8) to = rw v at (put-lent-whole to back n 8 w m) in
-    ap (λ (l : List ℕ). drop (n + 8) l) whole ∙ drop-at (take n to ++ back) (drop (n + 8) to) (n + 8) front ∙ sym (drop-drop 8 n to) ∙ ap (λ (l : List ℕ). drop 8 l) e ∙ drop-drop 8 n first
-
--- the whole chain stands at the front
-pub chain-put : (to first all : List ℕ) (n : ℕ) → all ≡ take n to → drop n to ≡ drop n first → n ≤ length to → (n ≡ length all) × (to ≡ put first 0 all)
-unfolding put
-chain-put to first all n e f h =
-    let long : length all ≡ n = rw e (length-take-le n to h) in
-    (sym long, sym (take-append-drop n to) ∙ rw (← e, f, zero-add, long))
+    (omega (arith, is), omega (arith, is, long), right .1, inside .1, rw next at (here .1))
 
 -- the device of a right input is no larger than it may be
 blocks-in : (ls : List (List ℕ)) → wrongFrom 1 ls ≡ 0 → exerciseIn ls .settings .blocks ≤ 64

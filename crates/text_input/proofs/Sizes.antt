@@ -6,14 +6,14 @@ use mathlib.Core.Path.{_≡_, refl, sym}
 use mathlib.Core.Bool.{Bool, true}
 use mathlib.Core.List.{List, [], _∷_}
 use lib.ListN.{length, getD, drop}
-use lib.Seq.{getD-drop}
 use Rattle.numbers.specs.Bytes.{AreBytes}
 use Rattle.numbers.proofs.Bytes.{bytes-nil, bytes-cons, bytes-append}
 use Rattle.numbers.proofs.Choice.{pick-ind}
 use Rattle.text_digits.specs.Digits.{valueOf, bytesIn}
 use Rattle.text_input.specs.Format.{lines, ready, readonly, storage, value, bytesOf, rightLine, wrongFrom, wrongLine, Exercise, chainIn, exerciseIn}
 use Rattle.text_input.proofs.Values.{length-value, number-bounded}
-use Rattle.text_input.proofs.Rights.{missing, all-right, later-right, storage-right, ccw-right, hex-is}
+use Rattle.text_input.proofs.Reading.{decoded-length}
+use Rattle.text_input.proofs.Rights.{storage-line, ccw-right, hex-is}
 
 value-below : (c : ℕ) → valueOf c < 16
 unfolding valueOf
@@ -24,12 +24,6 @@ unfolding bytesIn
 decoded-bytes [] = bytes-nil
 decoded-bytes (c ∷ []) = bytes-nil
 decoded-bytes (h ∷ l ∷ text) = bytes-cons (valueOf h * 16 + valueOf l) (bytesIn text) (omega (arith, value-below h, value-below l)) (decoded-bytes text)
-
-decoded-length : (text : List ℕ) → length (bytesIn text) + length (bytesIn text) ≤ length text
-unfolding bytesIn
-decoded-length [] = omega arith
-decoded-length (c ∷ []) = omega arith
-decoded-length (h ∷ l ∷ text) = omega (arith, decoded-length text)
 
 chain-are-bytes : (ls : List (List ℕ)) → AreBytes (chainIn ls)
 unfolding chainIn bytesOf
@@ -44,18 +38,12 @@ pub storage-bytes : (input : List ℕ) → AreBytes (exerciseIn (lines input) .s
 unfolding exerciseIn bytesOf
 storage-bytes input = decoded-bytes _
 
-storage-length : (ls : List (List ℕ)) → wrongFrom 4 ls ≡ 0 → length (bytesOf storage (getD ls 0 [])) ≤ 1024
-unfolding bytesOf
-storage-length [] e = absurd (missing 4 (omega arith) (omega arith) e)
-storage-length (l ∷ ls) e =
-    let is = hex-is storage l _ (storage-right l (all-right 4 l ls (omega arith) e .0)) refl in
-    let half = decoded-length (value (storage .key) l) in
-    omega (arith, half, is .0, is .2, length-value (storage .key) l (omega (arith, is .0)))
-
-pub storage-few : (input : List ℕ) → wrongLine input ≡ 0 → length (exerciseIn (lines input) .storage) ≤ 1024
-unfolding exerciseIn wrongLine
+pub storage-few : (input : List ℕ) → wrongLine input ≡ 0 → length (exerciseIn (lines input) .storage) ≤ storage .most
+unfolding exerciseIn bytesOf
 storage-few input e =
-    rw (sym (getD-drop 3 (lines input) 0 [])) (storage-length (drop 3 (lines input)) (later-right 3 1 (lines input) (omega arith) (omega arith) e))
+    let l : List ℕ = getD (lines input) 3 [] in
+    let is = hex-is storage l (storage-line input e) in
+    rw decoded-length (omega (arith, is, length-value (storage .key) l (omega (arith, is))))
 
 pub settings-few : (input : List ℕ) → (exerciseIn (lines input) .settings .ready < 256) × (exerciseIn (lines input) .settings .readonly < 256)
 unfolding exerciseIn

@@ -6,14 +6,16 @@
 --     bytesOf       the bytes in a line, of one that is right
 --     rightLine     line n is what it must be
 --     wrongLine     the number of the first wrong or missing line, or 0
+--     mostChain     the bytes of the longest chain
 --     exerciseIn    what an input with no wrong line says
 -- Lines are numbered from 1. Assumes nothing.
-use Prim.Native.Nat.{ℕ, zero, suc, _+_, _-_, _/_}
+use Prim.Native.Nat.{ℕ, zero, suc, _+_, _-_, _*_, _/_}
 use mathlib.Core.Bool.{Bool, false, not, _&&_}
 use mathlib.Core.List.{List, [], _∷_, _++_}
 use lib.ListN.{length, getD, take, drop}
 use Rattle.slices.specs.Parts.{part}
 use Rattle.numbers.specs.Choice.{_<?_, _=?_, pick}
+use Rattle.model.specs.Lent.{ccwSize}
 use Rattle.text_digits.specs.Digits.{ascii, decimal, isHex, bytesIn, same}
 use Rattle.text_output.specs.Printout.{lineFeed}
 use Rattle.text_input.specs.declared.Settings.{Settings}
@@ -51,7 +53,7 @@ abbrev pub storage : Field
 storage = field (ascii "storage=") 0 1024
 
 abbrev pub ccw : Field
-ccw = field (ascii "ccw=") 8 8
+ccw = field (ascii "ccw=") ccwSize ccwSize
 
 -- values
 
@@ -87,6 +89,9 @@ firstCcw = 5
 
 abbrev pub lastCcw : ℕ
 lastCcw = 36
+
+abbrev pub mostChain : ℕ
+mostChain = (lastCcw + 1 - firstCcw) * ccwSize
 
 unfoldable pub rightLine : ℕ → List ℕ → Bool
 rightLine n l =

@@ -1,2 +1,2 @@
 pub mod Format
-pub mod Lengths
+pub mod Reads

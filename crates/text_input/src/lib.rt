@@ -7,26 +7,44 @@ ghost use mathlib.Core.Path.{_≡_};
 ghost use mathlib.Core.List.{[]};
 ghost use Prim.Native.Nat.{_+_, _-_, _≤_, _<_};
 ghost use lib.ListN.{length, getD, drop};
-ghost use Rattle.slices.specs.Parts.{part, put};
-ghost use Rattle.text_digits.specs.Digits.{bytesIn};
-ghost use Rattle.text_input.specs.Format.{lines, field, keyed, numberIn, numberOf, hexLine, rightLine, wrongLine, Exercise, exerciseIn};
-ghost use Rattle.text_input.specs.Lengths.{lineLength};
+ghost use Rattle.slices.specs.Parts.{part};
+ghost use Rattle.text_digits.specs.Digits.{bytesIn, sixDigits};
+ghost use Rattle.text_input.specs.Format.{lines, field, storage, keyed, numberIn, numberOf, hexLine, rightLine, wrongLine, mostChain, Exercise, exerciseIn};
+ghost use Rattle.text_input.specs.Reads.{lineLength, held, ReadTo};
 
 const LINE_FEED: u8 = 0x0A;
 
-// The numbers of the first ccw line and of the last that may be.
+// The most blocks of a device, and the most bytes of main storage.
+pub const MOST_BLOCKS: usize = 64;
+
+pub const MOST_STORAGE: usize = 1024;
+
+// The bytes of a CCW.
+const CCW: usize = 8;
+
+// The numbers of the first ccw line and of the last that may be, and the bytes of the longest chain.
 const FIRST_CCW: usize = 5;
 
 const LAST_CCW: usize = 36;
 
-// The bytes of a CCW.
-const CCW: usize = 8;
+pub const MOST_CHAIN: usize = (LAST_CCW + 1 - FIRST_CCW) * CCW;
+
+// The bytes of a key, with its equals sign.
+const STORAGE_KEY: usize = 8;
+
+const CCW_KEY: usize = 4;
 
 // What the lines before storage say.
 pub struct Settings {
     pub blocks: usize,
     pub ready: u8,
     pub readonly: u8,
+}
+
+// Where a line stands in the input.
+struct Line {
+    at: usize,
+    end: usize,
 }
 
 // How long the first line is; 0 where there is none.
@@ -59,7 +77,7 @@ fn keyed(line: &[u8], key: &[u8]) -> bool
 
 // The number from `least` to `most` whose decimal the text is, or one past `most`.
 fn number_in(text: &[u8], least: usize, most: usize) -> usize
-    requires { ⌜ (least ≤ most) × (most < 100000) ⌝ }
+    requires { ⌜ (least ≤ most) × (most < sixDigits) ⌝ }
     ensures { λ r. ⌜ r ≡ numberIn (most + 1 - least) least (now (text .entry)) ⌝ }
 {
     let mut n = least;
@@ -74,7 +92,7 @@ fn number_in(text: &[u8], least: usize, most: usize) -> usize
 
 // The number in a line with this key, or one past `most`.
 fn number_of(line: &[u8], key: &[u8], least: usize, most: usize) -> usize
-    requires { ⌜ (least ≤ most) × (most < 100000) ⌝ }
+    requires { ⌜ (least ≤ most) × (most < sixDigits) ⌝ }
     ensures { λ r. ⌜ r ≡ numberOf (field (now (key .entry)) least most) (now (line .entry)) ⌝ }
 {
     if keyed(line, key) {
@@ -110,7 +128,7 @@ fn right_line(n: usize, line: &[u8]) -> bool
     ensures { λ r. ⌜ r ≡ rightLine n (now (line .entry)) ⌝ }
 {
     if n == 1 {
-        return number_of(line, b"blocks=", 1, 64) <= 64;
+        return number_of(line, b"blocks=", 1, MOST_BLOCKS) <= MOST_BLOCKS;
     }
     if n == 2 {
         return number_of(line, b"ready=", 0, 1) <= 1;
@@ -119,12 +137,12 @@ fn right_line(n: usize, line: &[u8]) -> bool
         return number_of(line, b"readonly=", 0, 1) <= 1;
     }
     if n == 4 {
-        return hex_line(line, b"storage=", 0, 1024);
+        return hex_line(line, b"storage=", 0, MOST_STORAGE);
     }
     if LAST_CCW < n {
         return false;
     }
-    hex_line(line, b"ccw=", 8, 8)
+    hex_line(line, b"ccw=", CCW, CCW)
 }
 
 // The number of the first wrong or missing line, or 0.
@@ -155,13 +173,25 @@ fn line_start(input: &[u8], n: usize) -> usize
     at
 }
 
-// The number in the line after the first n.
-fn number_at(input: &[u8], n: usize, key: &[u8], least: usize, most: usize) -> usize
-    requires { ⌜ (least ≤ most) × (most < 100000) ⌝ }
-    ensures { λ r. ⌜ (r ≡ numberOf (field (now (key .entry)) least most) (getD (lines (now (input .entry))) n [])) × (r ≤ most + 1) ⌝ }
+// The line after the first n; an empty one where there are no more.
+fn line_at(input: &[u8], n: usize) -> Line
+    ensures { λ r. ⌜ (r .at ≤ r .end) × (r .end ≤ length (now (input .entry))) × (part (now (input .entry)) (r .at) (r .end - r .at) ≡ getD (lines (now (input .entry))) n []) ⌝ }
 {
     let at = line_start(input, n);
-    let end = at + line_length(&input[at..]);
+    Line {
+        at: at,
+        end: at + line_length(&input[at..]),
+    }
+}
+
+// The number in the line after the first n.
+fn number_at(input: &[u8], n: usize, key: &[u8], least: usize, most: usize) -> usize
+    requires { ⌜ (least ≤ most) × (most < sixDigits) ⌝ }
+    ensures { λ r. ⌜ (r ≡ numberOf (field (now (key .entry)) least most) (getD (lines (now (input .entry))) n [])) × (r ≤ most + 1) ⌝ }
+{
+    let line = line_at(input, n);
+    let at = line.at;
+    let end = line.end;
     number_of(&input[at..end], key, least, most)
 }
 
@@ -170,46 +200,45 @@ pub fn settings_in(input: &[u8]) -> Settings
     ensures { λ r. ⌜ r ≡ exerciseIn (lines (now (input .entry))) .settings ⌝ }
 {
     Settings {
-        blocks: number_at(input, 0, b"blocks=", 1, 64),
+        blocks: number_at(input, 0, b"blocks=", 1, MOST_BLOCKS),
         ready: number_at(input, 1, b"ready=", 0, 1) as u8,
         readonly: number_at(input, 2, b"readonly=", 0, 1) as u8,
     }
 }
 
-// The bytes in a line, whose key is `from` bytes long, go to `to`, which they fill.
-fn bytes_of(line: &[u8], from: usize, to: &mut [u8])
-    requires { ⌜ length (now line) ≡ from + (length (now to) + length (now to)) + 1 ⌝ }
-    ensures { λ _. ⌜ now (to .exit) ≡ bytesIn (part (now (line .entry)) from (length (now (line .entry)) - (from + 1))) ⌝ }
+// The bytes in a line, whose key is `key` bytes long, go to the front of `to`, and their number is returned.
+fn bytes_of(line: &[u8], key: usize, to: &mut [u8]) -> usize
+    requires { ⌜ (length (now line) ≡ key + (held (now line) key + held (now line) key) + 1) × (held (now line) key ≤ length (now to)) ⌝ }
+    ensures { λ r. ⌜ ReadTo (now (to .entry)) (bytesIn (part (now (line .entry)) key (length (now (line .entry)) - (key + 1)))) r (now (to .exit)) ⌝ }
 {
     let end = line.len() - 1;
-    decode(&line[from..end], to);
+    let n = (end - key) / 2;
+    decode(&line[key..end], &mut to[..n]);
+    n
 }
 
 // Main storage goes to the front of `to`, and its length is returned.
 pub fn storage_in(input: &[u8], to: &mut [u8]) -> usize
-    requires { ⌜ (wrongLine (now input) ≡ 0) × (length (now to) ≡ 1024) ⌝ }
-    ensures { λ r. ⌜ (r ≡ length (exerciseIn (lines (now (input .entry))) .storage)) × (now (to .exit) ≡ put (now (to .entry)) 0 (exerciseIn (lines (now (input .entry))) .storage)) ⌝ }
+    requires { ⌜ (wrongLine (now input) ≡ 0) × (length (now to) ≡ storage .most) ⌝ }
+    ensures { λ r. ⌜ ReadTo (now (to .entry)) (exerciseIn (lines (now (input .entry))) .storage) r (now (to .exit)) ⌝ }
 {
-    let at = line_start(input, 3);
-    let long = line_length(&input[at..]);
-    let end = at + long;
-    let n = (long - 9) / 2;
-    bytes_of(&input[at..end], 8, &mut to[..n]);
-    n
+    let line = line_at(input, 3);
+    let at = line.at;
+    let end = line.end;
+    bytes_of(&input[at..end], STORAGE_KEY, to)
 }
 
 // The chain goes to the front of `to`, and its length is returned.
 pub fn chain_in(input: &[u8], to: &mut [u8]) -> usize
-    requires { ⌜ (wrongLine (now input) ≡ 0) × (length (now to) ≡ 256) ⌝ }
-    ensures { λ r. ⌜ (r ≡ length (exerciseIn (lines (now (input .entry))) .chain)) × (now (to .exit) ≡ put (now (to .entry)) 0 (exerciseIn (lines (now (input .entry))) .chain)) ⌝ }
+    requires { ⌜ (wrongLine (now input) ≡ 0) × (length (now to) ≡ mostChain) ⌝ }
+    ensures { λ r. ⌜ ReadTo (now (to .entry)) (exerciseIn (lines (now (input .entry))) .chain) r (now (to .exit)) ⌝ }
 {
     let mut at = line_start(input, 4);
     let mut n = 0;
     while at < input.len() {
         let end = at + line_length(&input[at..]);
         let from = n * CCW;
-        let upto = from + CCW;
-        bytes_of(&input[at..end], 4, &mut to[from..upto]);
+        bytes_of(&input[at..end], CCW_KEY, &mut to[from..]);
         at = end;
         n += 1;
     }

@@ -1,72 +1,74 @@
--- `text_input::chain_in` meets its contract. The invariant: the lines from `at` on are right, and the chain is what stands in `to`, then what they say. The measure: the bytes left.
+-- `text_input::chain_in` meets its contract. The invariant: the lines from `at` on are right, and what they say goes after what stands in `to`. The measure: the bytes left.
 -- Assumes nothing.
 use Prim.Native.Nat.{_+_, _≤_, _-_, _*_}
 use native.Mathlib.Omega.{arith}
-use mathlib.Core.Path.{refl, _≡_, _∙_}
-use mathlib.Core.List.{_++_, append-nil}
-use lib.ListN.{length, take, drop}
-use borrow.Rule.Slice.PartMut.{midOf, mid-len}
-use Rattle.slices.proofs.Laws.{rest-lent, part-lent, length-part}
-use Rattle.text_input.specs.Format.{lines, wrongFrom, chainIn, exerciseIn}
-use Rattle.text_input.proofs.Rights.{right-from, chain-start, ccw-is, chain-more, chain-rest, chain-done, chain-put}
+use mathlib.Core.Path.{_≡_, refl}
+use lib.ListN.{length, drop}
+use borrow.Rule.Slice.PartMut.{mid-len}
+use Rattle.slices.proofs.Laws.{rest-lent, part-lent}
+use Rattle.model.specs.Lent.{ccwSize}
+use Rattle.text_input.specs.Format.{lines, wrongFrom, mostChain, chainIn, exerciseIn}
+use Rattle.text_input.proofs.Reading.{Goes, goes-start, goes-done}
+use Rattle.text_input.proofs.Rights.{right-from, ccw-is, chain-more, chain-done}
 use borrow.Author.Needs.{needs}
 use Rattle.text_input.proofs.chain_in.Statement.{statement}
 use Rattle.text_input.proofs.chain_in.Tie as tie
 
 abbrev Inv-loop : tie.InvT-loop
-Inv-loop input to₀ at₀ n₀ to at n = (at ≤ length input) × (wrongFrom (5 + n) (lines (drop at input)) ≡ 0) × (length to ≡ length to₀) × (length to₀ ≡ 256) × (n ≤ 32) × (exerciseIn (lines input) .chain ≡ take (n * 8) to ++ chainIn (lines (drop at input))) × (drop (n * 8) to ≡ drop (n * 8) to₀)
+Inv-loop input to₀ at₀ n₀ to at n = (at ≤ length input) × (wrongFrom (5 + n) (lines (drop at input)) ≡ 0) × (length to ≡ length to₀) × (length to₀ ≡ mostChain) × (n ≤ 32) × Goes to₀ (exerciseIn (lines input) .chain) to (n * ccwSize) (chainIn (lines (drop at input)))
 
 abbrev μ-loop : tie.MeasureT-loop
 μ-loop input to₀ at₀ n₀ to at n = length input - at
 
 loop-holds : tie.Need-loop-holds Inv-loop μ-loop
-loop-holds c =
-    let a = c .before .before .before .args in
-    (c .line-start .ensures .1, right-from (a .input .now) 4 (c .line-start .result) (omega arith) (c .before .before .before .pre .0) (c .line-start .ensures .0), search needs, c .before .before .before .pre .1, omega arith, chain-start (a .input .now) (a .to .now) (c .line-start .result) (c .line-start .ensures .0), refl)
+unfolding exerciseIn
+loop-holds c = (c .line-start .ensures .1, right-from (c .before .before .before .args .input .now) 4 (c .line-start .result) (omega arith) (c .before .before .before .pre .0) (c .line-start .ensures .0), search needs, c .before .before .before .pre .1, omega arith, rw (c .line-start .ensures .0) goes-start)
 
-part-bytes-of-end-2 : tie.Need-part-bytes-of-end-2 Inv-loop μ-loop
-part-bytes-of-end-2 c =
+sub-bytes-of-2 : tie.Need-sub-bytes-of-2 Inv-loop μ-loop
+sub-bytes-of-2 c =
     let l = c .before .before .before .before .loop in
-    let a = c .before .before .before .before .before .before .before .before .args in
-    let k = rw (rest-lent (a .input .now) (l .at)) at (c .before .line-length .ensures .0) in
-    let s = ccw-is (a .input .now) (l .at) (l .n) _ (l .inv .1) (search needs) k in
-    omega (arith, s .1, l .inv)
+    let input = c .before .before .before .before .before .before .before .before .args .input .now in
+    let k = rw (rest-lent input (l .at)) at (c .before .line-length .ensures .0) in
+    let s = ccw-is input (l .at) (l .n) _ (l .inv .1) (search needs) k in
+    omega (arith, s .2, l .inv)
+
+part-bytes-of-start-2 : tie.Need-part-bytes-of-start-2 Inv-loop μ-loop
+part-bytes-of-start-2 c =
+    let l = c .before .before .before .before .loop in
+    let input = c .before .before .before .before .before .before .before .before .args .input .now in
+    let k = rw (rest-lent input (l .at)) at (c .before .line-length .ensures .0) in
+    let s = ccw-is input (l .at) (l .n) _ (l .inv .1) (search needs) k in
+    omega (arith, s .2, l .inv)
 
 bytes-of-requires : tie.Need-bytes-of-requires Inv-loop μ-loop
 bytes-of-requires c κs =
     let l = c .before .before .before .before .before .loop in
-    let a = c .before .before .before .before .before .before .before .before .before .args in
-    let k = rw (rest-lent (a .input .now) (l .at)) at (c .before .before .line-length .ensures .0) in
-    let s = ccw-is (a .input .now) (l .at) (l .n) _ (l .inv .1) (search needs) k in
-    let line = length-part (a .input .now) (l .at) _ (s .2) in
-    let eight : length (midOf (l .n * 8) (l .n * 8 + 8 - l .n * 8) (l .to)) ≡ 8 = mid-len (l .n * 8) (l .n * 8 + 8) (l .to) (omega (arith, s .1, l .inv)) ∙ omega arith in
-    rw (part-lent, line, eight) (s .0)
+    let input = c .before .before .before .before .before .before .before .before .before .args .input .now in
+    let k = rw (rest-lent input (l .at)) at (c .before .before .line-length .ensures .0) in
+    let s = ccw-is input (l .at) (l .n) _ (l .inv .1) (search needs) k in
+    rw (part-lent, s .0, mid-len (l .n * 8) (length (l .to)) (l .to) (omega arith)) (refl, omega (arith, s .2, l .inv))
 
 loop-less : tie.Need-loop-less Inv-loop μ-loop
 loop-less c =
     let l = c .before .before .before .before .before .before .before .before .loop in
-    let a = c .before .before .before .before .before .before .before .before .before .before .before .before .args in
-    let k = rw (rest-lent (a .input .now) (l .at)) at (c .before .before .before .before .before .line-length .ensures .0) in
-    let s = ccw-is (a .input .now) (l .at) (l .n) _ (l .inv .1) (search needs) k in
-    omega (arith, s .0, s .2)
+    let input = c .before .before .before .before .before .before .before .before .before .before .before .before .args .input .now in
+    let k = rw (rest-lent input (l .at)) at (c .before .before .before .before .before .line-length .ensures .0) in
+    let s = ccw-is input (l .at) (l .n) _ (l .inv .1) (search needs) k in
+    omega (arith, s .1, s .3)
 
 loop-again : tie.Need-loop-again Inv-loop μ-loop
 loop-again c =
     let l = c .before .before .before .before .before .before .before .before .loop in
-    let a = c .before .before .before .before .before .before .before .before .before .before .before .before .args in
-    let k = rw (rest-lent (a .input .now) (l .at)) at (c .before .before .before .before .before .line-length .ensures .0) in
-    let s = ccw-is (a .input .now) (l .at) (l .n) _ (l .inv .1) (search needs) k in
+    let input = c .before .before .before .before .before .before .before .before .before .before .before .before .args .input .now in
+    let k = rw (rest-lent input (l .at)) at (c .before .before .before .before .before .line-length .ensures .0) in
+    let s = ccw-is input (l .at) (l .n) _ (l .inv .1) (search needs) k in
     let next : (l .n + 1) * 8 ≡ l .n * 8 + 8 = omega arith in
-    let eight : length (midOf (l .n * 8) (l .n * 8 + 8 - l .n * 8) (l .to)) ≡ 8 = mid-len (l .n * 8) (l .n * 8 + 8) (l .to) (omega (arith, s .1, l .inv)) ∙ omega arith in
-    let kept = c .before .before .bytes-of .kept .1 .1 .0 in
-    (s .2, s .3, search needs, search needs, omega (arith, s .1), rw next (chain-more (a .input .now) (l .to) _ (l .at) (l .n * 8) _ _ (l .inv .5) (search needs) k (rw part-lent at (c .before .before .bytes-of .ensures)) kept (kept ∙ eight) (omega (arith, s .1, l .inv))), rw next (chain-rest (l .to) (a .to .now) (c .before .before .bytes-of .last .1 .1 .0) (l .n * 8) (l .inv .6) kept (kept ∙ eight) (omega (arith, s .1, l .inv))))
+    (s .3, s .4, search needs, search needs, omega (arith, s .2), rw next (chain-more input (l .to) (l .at) (l .n * 8) _ k (search needs) (s .0) (omega (arith, s .2, l .inv)) (rw part-lent at (c .before .before .bytes-of .ensures)) (l .inv .5)))
 
 returns : tie.Need-returns Inv-loop μ-loop
 returns c =
     let l = c .before .loop in
-    let a = c .before .before .before .before .before .args in
-    let done = rw (chain-done (a .input .now) (l .at) (search needs), append-nil (take (l .n * 8) (l .to))) at (l .inv .5) in
-    chain-put (l .to) (a .to .now) _ (l .n * 8) done (l .inv .6) (omega (arith, l .inv))
+    goes-done (rw (chain-done (c .before .before .before .before .before .args .input .now) (l .at) (search needs)) at (l .inv .5))
 
 pub chain-in-spec : {M : Type 1} → statement M
 chain-in-spec =
@@ -82,13 +84,12 @@ chain-in-spec =
     (search needs)  -- line-length-requires
     (search needs)  -- add-end
     (search needs)  -- mul-from
-    (search needs)  -- add-upto
     (search needs)  -- sub-bytes-of
     (search needs)  -- part-bytes-of-start
     (search needs)  -- part-bytes-of-end
-    (search needs)  -- sub-bytes-of-2
-    (search needs)  -- part-bytes-of-start-2
-    part-bytes-of-end-2
+    sub-bytes-of-2
+    part-bytes-of-start-2
+    (search needs)  -- part-bytes-of-end-2
     bytes-of-requires
     (search needs)  -- add-n
     loop-less

@@ -4,7 +4,7 @@ use Prim.Native.Nat.{_+_, _≤_, _-_}
 use native.Mathlib.Omega.{arith}
 use mathlib.Core.Path.{_≡_}
 use lib.ListN.{length, drop}
-use Rattle.text_input.specs.Lengths.{lineLength}
+use Rattle.text_input.specs.Reads.{lineLength}
 use Rattle.text_input.proofs.Lines.{no-line, line-ends, line-goes-on}
 use borrow.Author.Needs.{needs}
 use Rattle.text_input.proofs.line_length.Statement.{statement}
