@@ -5,11 +5,12 @@ use native.Mathlib.Decide.{decLe}
 use native.Mathlib.Omega.{arith}
 use mathlib.Core.Path.{_≡_, refl, sym, ap, _∙_}
 use mathlib.Core.List.{List, _++_}
-use lib.ListN.{length, getD, set, take, drop, replicate, length-append, length-replicate, List·getD-append}
-use lib.Seq.{take-suc, take-suc-set, take-all, take-at, getD-append-add}
+use lib.ListN.{length, getD, set, take, replicate, length-append, length-replicate, List·getD-append}
+use lib.Seq.{take-suc, take-suc-set, take-all, getD-append-add}
+use Rattle.model.specs.Chain.{classA}
 use Rattle.text_exercise.specs.Exercise.{device}
 
-pub device-length : (n : ℕ) → length (device n) ≡ n * 512
+pub device-length : (n : ℕ) → length (device n) ≡ n * classA
 unfolding device
 device-length zero = refl
 device-length (suc n) = rw (length-append, length-replicate, device-length n) (omega arith)
@@ -20,26 +21,22 @@ in-block (suc n) b zero h = refl
 in-block (suc n) b (suc i) h = in-block n b i (omega arith)
 
 -- byte i is that of its block
-pub device-at : (n i : ℕ) → i < n * 512 → getD (device n) i 0 ≡ i / 512
+pub device-at : (n i : ℕ) → i < n * classA → getD (device n) i 0 ≡ i / classA
 unfolding device
 device-at zero i h = absurd (omega arith)
-device-at (suc n) i h = elim (decLe (n * 512) i) [
+device-at (suc n) i h = elim (decLe (n * classA) i) [
   | yes l ↦
-      let j : ℕ = i - n * 512 in
+      let j : ℕ = i - n * classA in
       let e : i ≡ length (device n) + j = rw device-length (omega (arith, l)) in
-      let f : i / 512 ≡ n = omega (arith, l) in
-      ap (λ (k : ℕ). getD (device n ++ replicate 512 n) k 0) e ∙ getD-append-add (device n) (replicate 512 n) j 0 ∙ in-block 512 n j (omega (arith, l)) ∙ sym f
-  | no l ↦ List·getD-append (device n) (replicate 512 n) 0 i (rw device-length (omega (arith, l))) ∙ device-at n i (omega (arith, l))
+      let f : i / classA ≡ n = omega (arith, l) in
+      ap (λ (k : ℕ). getD (device n ++ replicate classA n) k 0) e ∙ getD-append-add (device n) (replicate classA n) j 0 ∙ in-block classA n j (omega (arith, l)) ∙ sym f
+  | no l ↦ List·getD-append (device n) (replicate classA n) 0 i (rw device-length (omega (arith, l))) ∙ device-at n i (omega (arith, l))
 ]
 
 -- one more byte is written
-pub device-more : (store : List ℕ) (n i v : ℕ) → take i store ≡ take i (device n) → i < length store → i < n * 512 → v ≡ i / 512 → take (i + 1) (set store i v) ≡ take (i + 1) (device n)
+pub device-more : (store : List ℕ) (n i v : ℕ) → take i store ≡ take i (device n) → i < length store → i < n * classA → v ≡ i / classA → take (i + 1) (set store i v) ≡ take (i + 1) (device n)
 device-more store n i v e h m f =
     rw (add-one, take-suc-set store i v h, e, take-suc (device n) i 0 (rw device-length m), device-at n i m, f)
 
-pub device-whole : (store : List ℕ) (n i : ℕ) → take i store ≡ take i (device n) → length store ≤ i → length store ≡ n * 512 → store ≡ device n
+pub device-whole : (store : List ℕ) (n i : ℕ) → take i store ≡ take i (device n) → length store ≤ i → length store ≡ n * classA → store ≡ device n
 device-whole store n i e h m = sym (take-all i store h) ∙ e ∙ take-all i (device n) (rw device-length (omega arith))
-
--- the front of a store that was lent, and is lent again
-pub front-again : (store back : List ℕ) (n : ℕ) → length back ≡ n → take n (back ++ drop n store) ≡ back
-front-again store back n e = take-at back (drop n store) n e

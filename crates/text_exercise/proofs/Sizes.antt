@@ -16,14 +16,15 @@ use Rattle.numbers.specs.Choice.{pick}
 use Rattle.model.specs.Rules.{firstOf}
 use Rattle.model.specs.Lent.{newRecord}
 use Rattle.model.specs.Causes.{callCauses}
-use Rattle.model.specs.Chain.{Called, call, callOf}
+use Rattle.model.specs.Chain.{Called, call, callOf, classA}
 use Rattle.numbers.proofs.Choice.{pick-ind}
 use Rattle.model.proofs.Fields.{IsRecord}
 use Rattle.model.proofs.Kept.{call-bytes}
 use Rattle.model.proofs.Lengths.{call-lengths}
 use Rattle.in_place.proofs.Reached.{reached-few}
+use Rattle.text_digits.specs.Digits.{sixDigits}
 use Rattle.text_output.specs.Printout.{printout}
-use Rattle.text_output.proofs.Sizes.{printout-length, refusal-length}
+use Rattle.text_output.proofs.Sizes.{printout-within, refusal-within}
 use Rattle.text_input.specs.Format.{lines, wrongLine, Exercise, exerciseIn}
 use Rattle.text_input.proofs.Sizes.{wrong-few, settings-few, storage-bytes, storage-few, chain-bytes}
 use Rattle.text_input.proofs.Rights.{few-blocks}
@@ -36,7 +37,7 @@ block-bytes (suc n) b h = bytes-cons b _ h (block-bytes n b h)
 device-bytes : (n : ℕ) → n ≤ 256 → AreBytes (device n)
 unfolding device
 device-bytes zero h = bytes-nil
-device-bytes (suc n) h = bytes-append (device n) _ (device-bytes n (omega arith)) (block-bytes 512 n (omega arith))
+device-bytes (suc n) h = bytes-append (device n) _ (device-bytes n (omega arith)) (block-bytes classA n (omega arith))
 
 new-fields : (ready readonly : ℕ) → ready < 256 → readonly < 256 → IsRecord (newRecord ready readonly)
 unfolding newRecord
@@ -53,7 +54,7 @@ new-fields ready readonly h k = record {
   read-only-byte = k;
 }
 
-small-cause : (chain main store : List ℕ) (u : Record) (answers : List ℕ) → call chain main store u answers .cause < 100000
+small-cause : (chain main store : List ℕ) (u : Record) (answers : List ℕ) → call chain main store u answers .cause < sixDigits
 unfolding callOf callCauses firstOf
 small-cause chain main store u answers =
     pick-ind P _ _ _ (λ _. omega arith) (λ _.
@@ -63,7 +64,7 @@ small-cause chain main store u answers =
     pick-ind P _ _ _ (λ _. omega arith) (λ _. omega arith)))))
   where
     P : ℕ → Type 0
-    P n = n < 100000
+    P n = n < sixDigits
 
 performed-length : (input : List ℕ) → wrongLine input ≡ 0 → length (printout (performed (exerciseIn (lines input)))) ≤ 4474
 unfolding performed
@@ -73,9 +74,9 @@ performed-length input e =
     let store : List ℕ = device (x .settings .blocks) in
     let answers : List ℕ = zeros (length (x .chain)) in
     let fields = new-fields (x .settings .ready) (x .settings .readonly) (settings-few input .0) (settings-few input .1) in
-    let bytes = call-bytes 512 (x .chain) (x .storage) store u answers (chain-bytes input) (storage-bytes input) (device-bytes (x .settings .blocks) (omega (arith, few-blocks input e))) fields (bytes-zeros _) in
-    let sizes = call-lengths 512 (x .chain) (x .storage) store u answers in
-    printout-length _ _ _ _ _ (small-cause (x .chain) (x .storage) store u answers) (reached-few (x .chain) (x .storage) store u answers _ refl) (bytes .answers-bytes) (omega (arith, sizes .main-length, storage-few input e)) (bytes .unit-fields .sense-length)
+    let bytes = call-bytes classA (x .chain) (x .storage) store u answers (chain-bytes input) (storage-bytes input) (device-bytes (x .settings .blocks) (omega (arith, few-blocks input e))) fields (bytes-zeros _) in
+    let sizes = call-lengths classA (x .chain) (x .storage) store u answers in
+    printout-within _ _ _ _ _ (small-cause (x .chain) (x .storage) store u answers) (reached-few (x .chain) (x .storage) store u answers _ refl) (bytes .answers-bytes) (omega (arith, sizes .main-length, storage-few input e)) (bytes .unit-fields .sense-length)
 
 fits-picked : (b : Bool) (said refused : List ℕ) (n : ℕ) → (b ≡ true → length said ≤ n) → length refused ≤ n → length (pick b said refused) ≤ n
 unfolding pick
@@ -85,4 +86,4 @@ fits-picked false said refused n f g = g
 pub printout-fits : (input : List ℕ) → length (exercise input) ≤ 4474
 unfolding exercise
 printout-fits input =
-    fits-picked (eqb (wrongLine input) 0) _ _ 4474 (λ e. performed-length input (eqb-true _ _ e)) (omega (arith, refusal-length (wrongLine input) (omega (arith, wrong-few input))))
+    fits-picked (eqb (wrongLine input) 0) _ _ 4474 (λ e. performed-length input (eqb-true _ _ e)) (omega (arith, refusal-within (wrongLine input) (omega (arith, wrong-few input))))

@@ -18,9 +18,9 @@ decoded-length (c ∷ []) = refl
 decoded-length (h ∷ l ∷ text) = omega (arith, decoded-length text)
 
 -- the front of a buffer was lent, and is back
-pub read-front : {to back bytes : List ℕ} {n : ℕ} → back ≡ bytes → length back ≡ n → ReadTo to bytes n (back ++ drop n to)
+pub read-front : {to back bytes : List ℕ} {n : ℕ} → back ≡ bytes → length back ≡ n → n ≤ length to → ReadTo to bytes n (back ++ drop n to)
 unfolding put
-read-front e h = record { count = sym h ∙ rw e; front = rw (← e, h, zero-add) }
+read-front e h m = record { count = sym h ∙ rw e; fits = m; front = rw (← e, h, zero-add) }
 
 pub record Goes (first all to : List ℕ) (n : ℕ) (rest : List ℕ) : Type 0 where
   pub count : length all ≡ n + length rest
@@ -36,5 +36,5 @@ goes-more {first} {all} {to} {n} bytes rest g e h = record {
   front = g .front ∙ rw e (sym (put-more to n bytes rest h));
 }
 
-pub goes-done : {first all to : List ℕ} {n : ℕ} → Goes first all to n [] → ReadTo first all n to
-goes-done {first} {all} {to} {n} g = record { count = omega (arith, g .count); front = sym (g .front ∙ put-nil to n) }
+pub goes-done : {first all to : List ℕ} {n : ℕ} → Goes first all to n [] → n ≤ length first → ReadTo first all n to
+goes-done {first} {all} {to} {n} g h = record { count = omega (arith, g .count); fits = h; front = sym (g .front ∙ put-nil to n) }

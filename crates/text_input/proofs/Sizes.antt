@@ -10,7 +10,7 @@ use Rattle.numbers.specs.Bytes.{AreBytes}
 use Rattle.numbers.proofs.Bytes.{bytes-nil, bytes-cons, bytes-append}
 use Rattle.numbers.proofs.Choice.{pick-ind}
 use Rattle.text_digits.specs.Digits.{valueOf, bytesIn}
-use Rattle.text_input.specs.Format.{lines, ready, readonly, storage, value, bytesOf, rightLine, wrongFrom, wrongLine, Exercise, chainIn, exerciseIn}
+use Rattle.text_input.specs.Format.{lines, mostStorage, ready, readonly, storage, value, bytesOf, rightLine, wrongFrom, wrongLine, Exercise, chainIn, exerciseIn}
 use Rattle.text_input.proofs.Values.{length-value, number-bounded}
 use Rattle.text_input.proofs.Reading.{decoded-length}
 use Rattle.text_input.proofs.Rights.{storage-line, ccw-right, hex-is}
@@ -38,7 +38,7 @@ pub storage-bytes : (input : List ℕ) → AreBytes (exerciseIn (lines input) .s
 unfolding exerciseIn bytesOf
 storage-bytes input = decoded-bytes _
 
-pub storage-few : (input : List ℕ) → wrongLine input ≡ 0 → length (exerciseIn (lines input) .storage) ≤ storage .most
+pub storage-few : (input : List ℕ) → wrongLine input ≡ 0 → length (exerciseIn (lines input) .storage) ≤ mostStorage
 unfolding exerciseIn bytesOf
 storage-few input e =
     let l : List ℕ = getD (lines input) 3 [] in

@@ -6,7 +6,7 @@
 --     bytesOf       the bytes in a line, of one that is right
 --     rightLine     line n is what it must be
 --     wrongLine     the number of the first wrong or missing line, or 0
---     mostChain     the bytes of the longest chain
+--     mostBlocks, mostStorage, mostChain   the most blocks of a device, bytes of main storage and bytes of a chain
 --     exerciseIn    what an input with no wrong line says
 -- Lines are numbered from 1. Assumes nothing.
 use Prim.Native.Nat.{ℕ, zero, suc, _+_, _-_, _*_, _/_}
@@ -32,6 +32,12 @@ lines (c ∷ input) = pick (c =? lineFeed) ((c ∷ []) ∷ lines input) (onto c 
 
 -- fields: "blocks (1 to 64), ready and readonly (0 or 1), storage (hex, 0 to 1,024 bytes). A ccw value is 16 hex digits."
 
+abbrev pub mostBlocks : ℕ
+mostBlocks = 64
+
+abbrev pub mostStorage : ℕ
+mostStorage = 1024
+
 pub record Field : Type 0 where
   pub key : List ℕ
   pub least : ℕ
@@ -41,7 +47,7 @@ abbrev pub field : List ℕ → ℕ → ℕ → Field
 field key least most = record { key = key; least = least; most = most }
 
 abbrev pub blocks : Field
-blocks = field (ascii "blocks=") 1 64
+blocks = field (ascii "blocks=") 1 mostBlocks
 
 abbrev pub ready : Field
 ready = field (ascii "ready=") 0 1
@@ -50,7 +56,7 @@ abbrev pub readonly : Field
 readonly = field (ascii "readonly=") 0 1
 
 abbrev pub storage : Field
-storage = field (ascii "storage=") 0 1024
+storage = field (ascii "storage=") 0 mostStorage
 
 abbrev pub ccw : Field
 ccw = field (ascii "ccw=") ccwSize ccwSize

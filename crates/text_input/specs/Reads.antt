@@ -1,8 +1,8 @@
 -- How an input is read, line by line, for the functions that do it. Assumes nothing.
 --     lineLength   the bytes of the first line: up to the first line feed, with it; all of them where there is none
 --     held         the bytes that a line holds in hexadecimal, after a key of that length and before its line feed
---     ReadTo       bytes go to the front of `to`, which then is `back`, and n is their number
-use Prim.Native.Nat.{ℕ, suc, _+_, _-_, _/_}
+--     ReadTo       bytes go to the front of `to`, where they fit and which then is `back`; n is their number
+use Prim.Native.Nat.{ℕ, suc, _+_, _-_, _/_, _≤_}
 use mathlib.Core.Path.{_≡_}
 use mathlib.Core.List.{List, [], _∷_}
 use lib.ListN.{length}
@@ -19,4 +19,5 @@ held line key = (length line - (key + 1)) / 2
 
 pub record ReadTo (to bytes : List ℕ) (n : ℕ) (back : List ℕ) : Type 0 where
   pub count : n ≡ length bytes
+  pub fits : n ≤ length to
   pub front : back ≡ put to 0 bytes

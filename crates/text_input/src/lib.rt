@@ -9,7 +9,7 @@ ghost use Prim.Native.Nat.{_+_, _-_, _≤_, _<_};
 ghost use lib.ListN.{length, getD, drop};
 ghost use Rattle.slices.specs.Parts.{part};
 ghost use Rattle.text_digits.specs.Digits.{bytesIn, sixDigits};
-ghost use Rattle.text_input.specs.Format.{lines, field, storage, keyed, numberIn, numberOf, hexLine, rightLine, wrongLine, mostChain, Exercise, exerciseIn};
+ghost use Rattle.text_input.specs.Format.{lines, field, mostStorage, keyed, numberIn, numberOf, hexLine, rightLine, wrongLine, mostChain, Exercise, exerciseIn};
 ghost use Rattle.text_input.specs.Reads.{lineLength, held, ReadTo};
 
 const LINE_FEED: u8 = 0x0A;
@@ -219,7 +219,7 @@ fn bytes_of(line: &[u8], key: usize, to: &mut [u8]) -> usize
 
 // Main storage goes to the front of `to`, and its length is returned.
 pub fn storage_in(input: &[u8], to: &mut [u8]) -> usize
-    requires { ⌜ (wrongLine (now input) ≡ 0) × (length (now to) ≡ storage .most) ⌝ }
+    requires { ⌜ (wrongLine (now input) ≡ 0) × (length (now to) ≡ mostStorage) ⌝ }
     ensures { λ r. ⌜ ReadTo (now (to .entry)) (exerciseIn (lines (now (input .entry))) .storage) r (now (to .exit)) ⌝ }
 {
     let line = line_at(input, 3);

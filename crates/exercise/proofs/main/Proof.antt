@@ -2,19 +2,19 @@
 use native.Mathlib.Omega.{arith}
 use mathlib.Core.Path.{sym}
 use lib.Seq.{length-take-le}
-use Rattle.text_digits.proofs.Outputs.{added-within}
+use Rattle.text_digits.proofs.Outputs.{adds-within}
 use borrow.Author.Needs.{needs}
 use Rattle.exercise.proofs.main.Statement.{statement}
 use Rattle.exercise.proofs.main.Tie as tie
 
 array-share-prefix-output : tie.Need-array-share-prefix-output
 array-share-prefix-output c =
-    let within = added-within _ _ _ _ _ (c .before .exercise .ensures) (omega arith) in
+    let within = adds-within (c .before .exercise .ensures) (omega arith) in
     omega (arith, within, c .before .exercise .kept .1 .0)
 
 slice-aggregate-write-all : tie.Need-slice-aggregate-write-all
 slice-aggregate-write-all c =
-    let within = added-within _ _ _ _ _ (c .before .before .exercise .ensures) (omega arith) in
+    let within = adds-within (c .before .before .exercise .ensures) (omega arith) in
     sym (length-take-le _ _ (omega (arith, within, c .before .before .exercise .kept .1 .0)))
 
 pub main-spec : {M : Type 1} → statement M

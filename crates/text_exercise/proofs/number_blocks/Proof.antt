@@ -4,6 +4,8 @@ use Prim.Native.Nat.{_≤_, _-_, _*_}
 use native.Mathlib.Omega.{arith}
 use mathlib.Core.Path.{_≡_, refl}
 use lib.ListN.{length, take}
+use Rattle.model.specs.Chain.{classA}
+use Rattle.text_input.specs.Format.{mostBlocks}
 use Rattle.text_exercise.specs.Exercise.{device}
 use Rattle.text_exercise.proofs.Devices.{device-more, device-whole}
 use borrow.Author.Needs.{needs}
@@ -11,7 +13,7 @@ use Rattle.text_exercise.proofs.number_blocks.Statement.{statement}
 use Rattle.text_exercise.proofs.number_blocks.Tie as tie
 
 abbrev Inv-loop : tie.InvT-loop
-Inv-loop store₀ blocks i₀ i-end store i = (i ≤ i-end) × (i-end ≡ length store₀) × (length store ≡ length store₀) × (length store₀ ≡ blocks * 512) × (blocks ≤ 64) × (take i store ≡ take i (device blocks))
+Inv-loop store₀ blocks i₀ i-end store i = (i ≤ i-end) × (i-end ≡ length store₀) × (length store ≡ length store₀) × (length store₀ ≡ blocks * classA) × (blocks ≤ mostBlocks) × (take i store ≡ take i (device blocks))
 
 abbrev μ-loop : tie.MeasureT-loop
 μ-loop store₀ blocks i₀ i-end store i = i-end - i

@@ -11,9 +11,6 @@ use borrow.Author.Needs.{needs}
 use Rattle.text_input.proofs.bytes_of.Statement.{statement}
 use Rattle.text_input.proofs.bytes_of.Tie as tie
 
-slice-aggregate-decode : tie.Need-slice-aggregate-decode
-slice-aggregate-decode c = sym (length-take-le _ _ (omega arith))
-
 decode-requires : tie.Need-decode-requires
 decode-requires c κs =
     let a = c .before .before .before .before .args in
@@ -25,7 +22,7 @@ unfolding part
 returns c =
     let a = c .before .before .before .before .before .before .before .args in
     let e : length (a .line .now) - 1 - a .key ≡ length (a .line .now) - (a .key + 1) = omega arith in
-    read-front (rw e at (c .before .before .decode .ensures)) (c .before .before .decode .kept .1 .0 ∙ length-take-le _ _ (omega arith))
+    read-front (rw e at (c .before .before .decode .ensures)) (c .before .before .decode .kept .1 .0 ∙ length-take-le _ _ (omega arith)) (omega arith)
 
 pub bytes-of-spec : {M : Type 1} → statement M
 bytes-of-spec =
@@ -37,7 +34,7 @@ bytes-of-spec =
     (search needs)  -- part-decode-start
     (search needs)  -- part-decode-end
     (search needs)  -- slice-relend-prefix-decode
-    slice-aggregate-decode
+    (λ c. sym (length-take-le _ _ (omega arith)))  -- slice-aggregate-decode
     decode-requires
     (search needs)  -- same-length
     returns)

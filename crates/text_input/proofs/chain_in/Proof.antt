@@ -24,22 +24,6 @@ loop-holds : tie.Need-loop-holds Inv-loop μ-loop
 unfolding exerciseIn
 loop-holds c = (c .line-start .ensures .1, right-from (c .before .before .before .args .input .now) 4 (c .line-start .result) (omega arith) (c .before .before .before .pre .0) (c .line-start .ensures .0), search needs, c .before .before .before .pre .1, omega arith, rw (c .line-start .ensures .0) goes-start)
 
-sub-bytes-of-2 : tie.Need-sub-bytes-of-2 Inv-loop μ-loop
-sub-bytes-of-2 c =
-    let l = c .before .before .before .before .loop in
-    let input = c .before .before .before .before .before .before .before .before .args .input .now in
-    let k = rw (rest-lent input (l .at)) at (c .before .line-length .ensures .0) in
-    let s = ccw-is input (l .at) (l .n) _ (l .inv .1) (search needs) k in
-    omega (arith, s .2, l .inv)
-
-part-bytes-of-start-2 : tie.Need-part-bytes-of-start-2 Inv-loop μ-loop
-part-bytes-of-start-2 c =
-    let l = c .before .before .before .before .loop in
-    let input = c .before .before .before .before .before .before .before .before .args .input .now in
-    let k = rw (rest-lent input (l .at)) at (c .before .line-length .ensures .0) in
-    let s = ccw-is input (l .at) (l .n) _ (l .inv .1) (search needs) k in
-    omega (arith, s .2, l .inv)
-
 bytes-of-requires : tie.Need-bytes-of-requires Inv-loop μ-loop
 bytes-of-requires c κs =
     let l = c .before .before .before .before .before .loop in
@@ -68,7 +52,7 @@ loop-again c =
 returns : tie.Need-returns Inv-loop μ-loop
 returns c =
     let l = c .before .loop in
-    goes-done (rw (chain-done (c .before .before .before .before .before .args .input .now) (l .at) (search needs)) at (l .inv .5))
+    goes-done (rw (chain-done (c .before .before .before .before .before .args .input .now) (l .at) (search needs)) at (l .inv .5)) (omega (arith, l .inv))
 
 pub chain-in-spec : {M : Type 1} → statement M
 chain-in-spec =
@@ -87,8 +71,8 @@ chain-in-spec =
     (search needs)  -- sub-bytes-of
     (search needs)  -- part-bytes-of-start
     (search needs)  -- part-bytes-of-end
-    sub-bytes-of-2
-    part-bytes-of-start-2
+    (search needs)  -- sub-bytes-of-2
+    (search needs)  -- part-bytes-of-start-2
     (search needs)  -- part-bytes-of-end-2
     bytes-of-requires
     (search needs)  -- add-n

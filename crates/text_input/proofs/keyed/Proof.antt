@@ -17,9 +17,6 @@ returns-2 : tie.Need-returns-2
 unfolding keyed
 returns-2 c = simp (lt-ltb _ _ (c .before .before .if1 .left), ne-eqb _ _ (c .if2 .taken))
 
-slice-aggregate-same : tie.Need-slice-aggregate-same
-slice-aggregate-same c = sym (length-take-le _ _ (omega arith))
-
 returns-3 : tie.Need-returns-3
 unfolding keyed
 returns-3 c = simp (lt-ltb _ _ (c .before .before .before .before .if1 .left), eq-eqb _ _ (c .before .before .if2 .left)) (told-same _ _ _ (c .same .ensures .0) (c .same .ensures .1))
@@ -32,6 +29,6 @@ keyed-spec =
     (search needs)  -- sub-if2
     (search needs)  -- shared-slice-read-if2
     returns-2
-    slice-aggregate-same
+    (λ c. sym (length-take-le _ _ (omega arith)))  -- slice-aggregate-same
     (search needs)  -- same-requires
     returns-3)
