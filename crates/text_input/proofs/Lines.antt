@@ -10,9 +10,7 @@ use lib.Dec.{eqb, ltb}
 use lib.ListN.{length, getD, take, drop, length-drop, drop-of-length-le}
 use lib.Seq.{drop-cons, drop-drop, getD-drop}
 use borrow.Author.Tests.{eq-eqb, ne-eqb}
-use borrow.Rule.Slice.PartMut.{midOf}
 use Rattle.slices.specs.Parts.{part}
-use Rattle.slices.proofs.Laws.{rest-lent}
 use Rattle.numbers.specs.Choice.{pick}
 use Rattle.text_output.specs.Printout.{lineFeed}
 use Rattle.text_input.specs.Format.{onto, lines, rightLine, wrongFrom}
@@ -49,13 +47,11 @@ unfolding lineLength
 some-line [] h = absurd (omega arith)
 some-line (c ∷ input) h = fits (eqb c lineFeed) (lineLength input) (length input) (line-fits input) .0
 
--- a line ends after where it begins, and in the input
-pub line-inside : (input : List ℕ) (at k : ℕ) → k ≡ lineLength (drop at input) → at < length input → (1 ≤ k) × (at + k ≤ length input)
-line-inside input at k e h =
+-- a line ends after where it begins
+pub line-ends-after : (input : List ℕ) (at end : ℕ) → end ≡ at + lineLength (drop at input) → at < length input → at < end
+line-ends-after input at end e h =
     let l : length (drop at input) ≡ length input - at = length-drop at input in
-    let some = some-line (drop at input) (omega arith) in
-    let in-it = line-fits (drop at input) in
-    (omega arith, omega arith)
+    omega (arith, some-line (drop at input) (omega arith))
 
 -- the first line, and those after it
 
@@ -94,21 +90,23 @@ unfolding lines
 no-lines = refl
 
 -- the line that begins at a place of the input, and those after it
-pub lines-at : (input : List ℕ) (at k : ℕ) → k ≡ lineLength (drop at input) → at < length input → lines (drop at input) ≡ part input at k ∷ lines (drop (at + k) input)
+pub lines-at : (input : List ℕ) (at end : ℕ) → end ≡ at + lineLength (drop at input) → at < length input → lines (drop at input) ≡ part input at (end - at) ∷ lines (drop end input)
 unfolding part
-lines-at input at k e h =
+lines-at input at end e h =
     let l : length (drop at input) ≡ length input - at = length-drop at input in
-    rw (e, ← (drop-drop (lineLength (drop at input)) at input)) (cons-lines (drop at input) (omega arith))
+    let k : end - at ≡ lineLength (drop at input) = omega arith in
+    rw (k, e, ← (drop-drop (lineLength (drop at input)) at input)) (cons-lines (drop at input) (omega arith))
 
 -- line n is where the lines after the first n begin
-pub line-at : (input : List ℕ) (n at k : ℕ) → drop n (lines input) ≡ lines (drop at input) → k ≡ lineLength (drop at input) → getD (lines input) n [] ≡ part input at k
+pub line-at : (input : List ℕ) (n at end : ℕ) → drop n (lines input) ≡ lines (drop at input) → end ≡ at + lineLength (drop at input) → getD (lines input) n [] ≡ part input at (end - at)
 unfolding part
-line-at input n at k e f =
-    ap (λ (m : ℕ). getD (lines input) m []) (sym (add-zero n)) ∙ sym (getD-drop n (lines input) 0 []) ∙ ap (λ (ls : List (List ℕ)). getD ls 0 []) e ∙ head-line (drop at input) ∙ rw f
+line-at input n at end e f =
+    let k : end - at ≡ lineLength (drop at input) = omega arith in
+    ap (λ (m : ℕ). getD (lines input) m []) (sym (add-zero n)) ∙ sym (getD-drop n (lines input) 0 []) ∙ ap (λ (ls : List (List ℕ)). getD ls 0 []) e ∙ head-line (drop at input) ∙ rw k
 
-pub next-start : (input : List ℕ) (n at k : ℕ) → drop n (lines input) ≡ lines (drop at input) → k ≡ lineLength (drop at input) → drop (n + 1) (lines input) ≡ lines (drop (at + k) input)
-next-start input n at k e f =
-    sym (drop-drop 1 n (lines input)) ∙ ap (λ (ls : List (List ℕ)). drop 1 ls) e ∙ tail-lines (drop at input) ∙ rw (← f, drop-drop)
+pub next-start : (input : List ℕ) (n at end : ℕ) → drop n (lines input) ≡ lines (drop at input) → end ≡ at + lineLength (drop at input) → drop (n + 1) (lines input) ≡ lines (drop end input)
+next-start input n at end e f =
+    sym (drop-drop 1 n (lines input)) ∙ ap (λ (ls : List (List ℕ)). drop 1 ls) e ∙ tail-lines (drop at input) ∙ rw (drop-drop, f)
 
 -- whether the lines from one on are right
 
@@ -116,18 +114,11 @@ pub wrong-at-end : (input : List ℕ) (at n all : ℕ) → all ≡ wrongFrom n (
 unfolding wrongFrom lines
 wrong-at-end input at n all e h = e ∙ rw (drop-of-length-le input h)
 
-pub wrong-here : (input : List ℕ) (at n k all : ℕ) (r : Bool) → all ≡ wrongFrom n (lines (drop at input)) → at < length input → k ≡ lineLength (drop at input)
-    → r ≡ rightLine n (part input at k) → r ≡ false → n ≡ all
-unfolding wrongFrom pick
-wrong-here input at n k all r e h f g w = sym (e ∙ rw (lines-at input at k f h, ← g, w))
+module _ (input : List ℕ) (at n end all : ℕ) (r : Bool) (e : all ≡ wrongFrom n (lines (drop at input))) (f : end ≡ at + lineLength (drop at input)) (g : r ≡ rightLine n (part input at (end - at))) (h : at < length input) where
+  pub wrong-here : r ≡ false → n ≡ all
+  unfolding wrongFrom pick
+  wrong-here w = sym (e ∙ rw (lines-at input at end f h, ← g, w))
 
-pub right-here : (input : List ℕ) (at n k all : ℕ) (r : Bool) → all ≡ wrongFrom n (lines (drop at input)) → at < length input → k ≡ lineLength (drop at input)
-    → r ≡ rightLine n (part input at k) → r ≡ true → all ≡ wrongFrom (n + 1) (lines (drop (at + k) input))
-unfolding wrongFrom pick
-right-here input at n k all r e h f g w = e ∙ rw (lines-at input at k f h, ← g, w)
-
--- a part that `&input[at..]` lends is no longer than the rest
-pub rest-length : (input : List ℕ) (at k : ℕ) → k ≤ length (midOf at (length input - at) input) → at ≤ length input → at + k ≤ length input
-rest-length input at k h m =
-    let l : length (midOf at (length input - at) input) ≤ length input - at = rw (rest-lent input at, length-drop at input) (omega arith) in
-    omega arith
+  pub right-here : r ≡ true → all ≡ wrongFrom (n + 1) (lines (drop end input))
+  unfolding wrongFrom pick
+  right-here w = e ∙ rw (lines-at input at end f h, ← g, w)

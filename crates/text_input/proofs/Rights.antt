@@ -17,7 +17,7 @@ use Rattle.text_digits.specs.Digits.{isHex, bytesIn}
 use Rattle.numbers.proofs.Joined.{both-true}
 use Rattle.text_input.specs.Format.{Field, lines, blocks, numberOf, storage, ccw, value, bytesOf, hexLine, rightLine, wrongFrom, wrongLine, chainIn, exerciseIn}
 use Rattle.text_input.specs.Reads.{lineLength, held, ReadTo}
-use Rattle.text_input.proofs.Lines.{no-lines, lines-at, line-inside}
+use Rattle.text_input.proofs.Lines.{no-lines, lines-at}
 use Rattle.text_input.proofs.Values.{length-value, keyed-long}
 use Rattle.text_input.proofs.Reading.{decoded-length, Goes, goes-more}
 
@@ -48,9 +48,9 @@ pub right-from : (input : List ℕ) (i at : ℕ) → i ≤ 4 → wrongLine input
 unfolding wrongLine
 right-from input i at h e f = rw f at (later-right i 1 (lines input) (omega arith) (omega arith) e)
 
-pub right-here : (input : List ℕ) (at n k : ℕ) → 1 ≤ n → at < length input → k ≡ lineLength (drop at input) → wrongFrom n (lines (drop at input)) ≡ 0
-    → (rightLine n (part input at k) ≡ true) × (wrongFrom (n + 1) (lines (drop (at + k) input)) ≡ 0)
-right-here input at n k h m f e = all-right n (part input at k) (lines (drop (at + k) input)) h (rw (lines-at input at k f m) at e)
+pub right-here : (input : List ℕ) (at n end : ℕ) → 1 ≤ n → at < length input → end ≡ at + lineLength (drop at input) → wrongFrom n (lines (drop at input)) ≡ 0
+    → (rightLine n (part input at (end - at)) ≡ true) × (wrongFrom (n + 1) (lines (drop end input)) ≡ 0)
+right-here input at n end h m f e = all-right n (part input at (end - at)) (lines (drop end input)) h (rw (lines-at input at end f m) at e)
 
 ccw-picked : (b right : Bool) → pick b false right ≡ true → (b ≡ false) × (right ≡ true)
 unfolding pick
@@ -89,15 +89,16 @@ unfolding chainIn
 chain-done input at h = rw (drop-of-length-le input h, no-lines)
 
 -- the bytes of one more ccw line go after those before
-pub chain-more : {first all : List ℕ} (input to : List ℕ) {back : List ℕ} (at n k : ℕ) {r : ℕ} → k ≡ lineLength (drop at input) → at < length input → length (part input at k) ≡ 21 → n + 8 ≤ length to
-    → ReadTo (midOf n (length to - n) to) (bytesIn (part (part input at k) 4 (length (part input at k) - (4 + 1)))) r back
-    → Goes first all to n (chainIn (lines (drop at input))) → Goes first all (putMid n (length to - n) to back) (n + 8) (chainIn (lines (drop (at + k) input)))
+pub chain-more : {first all : List ℕ} (input to : List ℕ) {back : List ℕ} (at n end : ℕ) {r : ℕ} → end ≡ at + lineLength (drop at input) → at < length input
+    → length (part input at (end - at)) ≡ 21 → n + 8 ≤ length to
+    → ReadTo (midOf n (length to - n) to) (bytesIn (part (part input at (end - at)) 4 (length (part input at (end - at)) - (4 + 1)))) r back
+    → Goes first all to n (chainIn (lines (drop at input))) → Goes first all (putMid n (length to - n) to back) (n + 8) (chainIn (lines (drop end input)))
 unfolding chainIn bytesOf value
-chain-more input to {back} at n k f h m fits read g =
-    let line : List ℕ = part input at k in
+chain-more input to {back} at n end f h m fits read g =
+    let line : List ℕ = part input at (end - at) in
     let bytes : List ℕ = bytesIn (part line 4 (length line - (4 + 1))) in
     let eight : length bytes ≡ 8 = decoded-length _ ∙ rw (length-part line 4 (length line - (4 + 1)) (omega (arith, m)), m) in
-    rw eight at (goes-more bytes _ (rw (lines-at input at k f h) at g) (put-lent-front to bytes back n (length to - n) (read .front) (omega (arith, eight)) (omega (arith, eight))) (omega arith))
+    rw eight at (goes-more bytes _ (rw (lines-at input at end f h) at g) (put-lent-front to bytes back n (length to - n) (read .front) (omega (arith, eight)) (omega (arith, eight))) (omega arith))
 
 -- the line of main storage
 storage-first : (ls : List (List ℕ)) → wrongFrom 4 ls ≡ 0 → hexLine storage (getD ls 0 []) ≡ true
@@ -109,16 +110,14 @@ unfolding wrongLine
 storage-line input e = rw (sym (getD-drop 3 (lines input) 0 [])) (storage-first (drop 3 (lines input)) (later-right 3 1 (lines input) (omega arith) (omega arith) e))
 
 -- the line of a CCW, and how many there are
-pub ccw-is : (input : List ℕ) (at n k : ℕ) → wrongFrom (5 + n) (lines (drop at input)) ≡ 0 → at < length input → k ≡ lineLength (drop at input)
-    → (length (part input at k) ≡ 21) × (k ≡ 21) × (n < 32) × (at + k ≤ length input) × (wrongFrom (5 + (n + 1)) (lines (drop (at + k) input)) ≡ 0)
-ccw-is input at n k e there g =
-    let inside = line-inside input at k g there in
-    let long : length (part input at k) ≡ k = length-part input at k (inside .1) in
-    let here = right-here input at (5 + n) k (omega arith) there g e in
+pub ccw-is : (input : List ℕ) (at n end : ℕ) → wrongFrom (5 + n) (lines (drop at input)) ≡ 0 → at < length input → end ≡ at + lineLength (drop at input)
+    → (length (part input at (end - at)) ≡ 21) × (n < 32) × (wrongFrom (5 + (n + 1)) (lines (drop end input)) ≡ 0)
+ccw-is input at n end e there g =
+    let here = right-here input at (5 + n) end (omega arith) there g e in
     let right = ccw-right n _ (here .0) in
-    let is = hex-is ccw (part input at k) (right .0) in
+    let is = hex-is ccw (part input at (end - at)) (right .0) in
     let next : 5 + n + 1 ≡ 5 + (n + 1) = omega arith in
-    (omega (arith, is), omega (arith, is, long), right .1, inside .1, rw next at (here .1))
+    (omega (arith, is), right .1, rw next at (here .1))
 
 -- the device of a right input is no larger than it may be
 blocks-in : (ls : List (List ℕ)) → wrongFrom 1 ls ≡ 0 → exerciseIn ls .settings .blocks ≤ 64

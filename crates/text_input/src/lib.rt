@@ -47,11 +47,12 @@ struct Line {
     end: usize,
 }
 
-// How long the first line is; 0 where there is none.
-fn line_length(input: &[u8]) -> usize
-    ensures { λ r. ⌜ (r ≡ lineLength (now (input .entry))) × (r ≤ length (now (input .entry))) ⌝ }
+// Where the line that begins at a place ends, after its line feed; it has none where the input ends.
+fn line_end(input: &[u8], at: usize) -> usize
+    requires { ⌜ at ≤ length (now input) ⌝ }
+    ensures { λ r. ⌜ (r ≡ at + lineLength (drop at (now (input .entry)))) × (r ≤ length (now (input .entry))) ⌝ }
 {
-    let mut i = 0;
+    let mut i = at;
     while i < input.len() {
         if input[i] == LINE_FEED {
             return i + 1;
@@ -152,7 +153,7 @@ pub fn wrong_line(input: &[u8]) -> usize
     let mut at = 0;
     let mut n = 1;
     while at < input.len() {
-        let end = at + line_length(&input[at..]);
+        let end = line_end(input, at);
         if !right_line(n, &input[at..end]) {
             return n;
         }
@@ -168,7 +169,7 @@ fn line_start(input: &[u8], n: usize) -> usize
 {
     let mut at = 0;
     for i in 0..n {
-        at += line_length(&input[at..]);
+        at = line_end(input, at);
     }
     at
 }
@@ -180,7 +181,7 @@ fn line_at(input: &[u8], n: usize) -> Line
     let at = line_start(input, n);
     Line {
         at: at,
-        end: at + line_length(&input[at..]),
+        end: line_end(input, at),
     }
 }
 
@@ -236,7 +237,7 @@ pub fn chain_in(input: &[u8], to: &mut [u8]) -> usize
     let mut at = line_start(input, 4);
     let mut n = 0;
     while at < input.len() {
-        let end = at + line_length(&input[at..]);
+        let end = line_end(input, at);
         let from = n * CCW;
         bytes_of(&input[at..end], CCW_KEY, &mut to[from..]);
         at = end;

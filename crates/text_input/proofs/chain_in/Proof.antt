@@ -5,9 +5,10 @@ use native.Mathlib.Omega.{arith}
 use mathlib.Core.Path.{_≡_, refl}
 use lib.ListN.{length, drop}
 use borrow.Rule.Slice.PartMut.{mid-len}
-use Rattle.slices.proofs.Laws.{rest-lent, part-lent}
+use Rattle.slices.specs.Parts.{part}
 use Rattle.model.specs.Lent.{ccwSize}
 use Rattle.text_input.specs.Format.{lines, wrongFrom, mostChain, chainIn, exerciseIn}
+use Rattle.text_input.proofs.Lines.{line-ends-after}
 use Rattle.text_input.proofs.Reading.{Goes, goes-start, goes-done}
 use Rattle.text_input.proofs.Rights.{right-from, ccw-is, chain-more, chain-done}
 use borrow.Author.Needs.{needs}
@@ -25,34 +26,25 @@ unfolding exerciseIn
 loop-holds c = (c .line-start .ensures .1, right-from (c .before .before .before .args .input .now) 4 (c .line-start .result) (omega arith) (c .before .before .before .pre .0) (c .line-start .ensures .0), search needs, c .before .before .before .pre .1, omega arith, rw (c .line-start .ensures .0) goes-start)
 
 bytes-of-requires : tie.Need-bytes-of-requires Inv-loop μ-loop
+unfolding part
 bytes-of-requires c κs =
-    let l = c .before .before .before .before .before .loop in
-    let input = c .before .before .before .before .before .before .before .before .before .args .input .now in
-    let k = rw (rest-lent input (l .at)) at (c .before .before .line-length .ensures .0) in
-    let s = ccw-is input (l .at) (l .n) _ (l .inv .1) (search needs) k in
-    rw (part-lent, s .0, mid-len (l .n * 8) (length (l .to)) (l .to) (omega arith)) (refl, omega (arith, s .2, l .inv))
+    let l = c .before .before .before .before .loop in
+    let s = ccw-is (c .before .before .before .before .before .before .before .before .args .input .now) (l .at) (l .n) _ (l .inv .1) (search needs) (c .before .before .line-end .ensures .0) in
+    rw (s .0, mid-len (l .n * ccwSize) (length (l .to)) (l .to) (omega arith)) (refl, omega (arith, s .1, l .inv))
 
 loop-less : tie.Need-loop-less Inv-loop μ-loop
-loop-less c =
-    let l = c .before .before .before .before .before .before .before .before .loop in
-    let input = c .before .before .before .before .before .before .before .before .before .before .before .before .args .input .now in
-    let k = rw (rest-lent input (l .at)) at (c .before .before .before .before .before .line-length .ensures .0) in
-    let s = ccw-is input (l .at) (l .n) _ (l .inv .1) (search needs) k in
-    omega (arith, s .1, s .3)
+loop-less c = omega (arith, line-ends-after (c .before .before .before .before .before .before .before .before .before .before .before .args .input .now) (c .before .before .before .before .before .before .before .loop .at) _ (c .before .before .before .before .before .line-end .ensures .0) (search needs))
 
 loop-again : tie.Need-loop-again Inv-loop μ-loop
+unfolding part
 loop-again c =
-    let l = c .before .before .before .before .before .before .before .before .loop in
-    let input = c .before .before .before .before .before .before .before .before .before .before .before .before .args .input .now in
-    let k = rw (rest-lent input (l .at)) at (c .before .before .before .before .before .line-length .ensures .0) in
-    let s = ccw-is input (l .at) (l .n) _ (l .inv .1) (search needs) k in
-    let next : (l .n + 1) * 8 ≡ l .n * 8 + 8 = omega arith in
-    (s .3, s .4, search needs, search needs, omega (arith, s .2), rw next (chain-more input (l .to) (l .at) (l .n * 8) _ k (search needs) (s .0) (omega (arith, s .2, l .inv)) (rw part-lent at (c .before .before .bytes-of .ensures)) (l .inv .5)))
+    let l = c .before .before .before .before .before .before .before .loop in
+    let s = ccw-is (c .before .before .before .before .before .before .before .before .before .before .before .args .input .now) (l .at) (l .n) _ (l .inv .1) (search needs) (c .before .before .before .before .before .line-end .ensures .0) in
+    let next : (l .n + 1) * ccwSize ≡ l .n * ccwSize + ccwSize = omega arith in
+    (search needs, s .2, search needs, search needs, omega (arith, s .1), rw next (chain-more (c .before .before .before .before .before .before .before .before .before .before .before .args .input .now) (l .to) (l .at) (l .n * ccwSize) _ (c .before .before .before .before .before .line-end .ensures .0) (search needs) (s .0) (omega (arith, s .1, l .inv)) (c .before .before .bytes-of .ensures) (l .inv .5)))
 
 returns : tie.Need-returns Inv-loop μ-loop
-returns c =
-    let l = c .before .loop in
-    goes-done (rw (chain-done (c .before .before .before .before .before .args .input .now) (l .at) (search needs)) at (l .inv .5)) (omega (arith, l .inv))
+returns c = goes-done (rw (chain-done (c .before .before .before .before .before .args .input .now) (c .before .loop .at) (search needs)) at (c .before .loop .inv .5)) (omega (arith, c .before .loop .inv))
 
 pub chain-in-spec : {M : Type 1} → statement M
 chain-in-spec =
@@ -62,11 +54,7 @@ chain-in-spec =
     μ-loop
     (search needs)  -- line-start-requires
     loop-holds
-    (search needs)  -- sub-line-length
-    (search needs)  -- part-line-length-start
-    (search needs)  -- part-line-length-end
-    (search needs)  -- line-length-requires
-    (search needs)  -- add-end
+    (search needs)  -- line-end-requires
     (search needs)  -- mul-from
     (search needs)  -- sub-bytes-of
     (search needs)  -- part-bytes-of-start

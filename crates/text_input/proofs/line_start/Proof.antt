@@ -4,9 +4,8 @@ use Prim.Native.Nat.{_≤_, _-_}
 use native.Mathlib.Omega.{arith}
 use mathlib.Core.Path.{_≡_, refl}
 use lib.ListN.{length, drop}
-use Rattle.slices.proofs.Laws.{rest-lent}
 use Rattle.text_input.specs.Format.{lines}
-use Rattle.text_input.proofs.Lines.{next-start, rest-length}
+use Rattle.text_input.proofs.Lines.{next-start}
 use borrow.Author.Needs.{needs}
 use Rattle.text_input.proofs.line_start.Statement.{statement}
 use Rattle.text_input.proofs.line_start.Tie as tie
@@ -20,16 +19,10 @@ abbrev μ-loop : tie.MeasureT-loop
 loop-holds : tie.Need-loop-holds Inv-loop μ-loop
 loop-holds c = (search needs, search needs, refl)
 
-add-at : tie.Need-add-at Inv-loop μ-loop
-add-at c =
-    let h = rest-length (c .before .before .before .before .before .args .input .now) (c .before .before .before .loop .at) _ (c .line-length .ensures .1) (c .before .before .before .loop .inv .1) in
-    search (needs, h)
-
 loop-again : tie.Need-loop-again Inv-loop μ-loop
 loop-again c =
-    let l = c .before .before .before .loop in
-    let k = c .line-length .ensures in
-    (search needs, rest-length (c .before .before .before .before .before .args .input .now) (l .at) _ (k .1) (l .inv .1), next-start (c .before .before .before .before .before .args .input .now) (l .i) (l .at) _ (l .inv .2) (rw (rest-lent (c .before .before .before .before .before .args .input .now) (l .at)) at (k .0)))
+    let l = c .before .before .loop in
+    (search needs, search needs, next-start (c .before .before .before .before .args .input .now) (l .i) (l .at) _ (l .inv .2) (c .line-end .ensures .0))
 
 returns : tie.Need-returns Inv-loop μ-loop
 returns c =
@@ -44,11 +37,7 @@ line-start-spec =
     Inv-loop
     μ-loop
     loop-holds
-    (search needs)  -- sub-line-length
-    (search needs)  -- part-line-length-start
-    (search needs)  -- part-line-length-end
-    (search needs)  -- line-length-requires
-    add-at
+    (search needs)  -- line-end-requires
     (search needs)  -- add-i
     (search needs)  -- loop-less
     loop-again

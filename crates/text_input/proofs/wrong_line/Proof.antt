@@ -5,10 +5,10 @@ use native.Mathlib.Omega.{arith}
 use mathlib.Core.Path.{_≡_, _∙_, sym, refl}
 use lib.ListN.{length, drop}
 use borrow.Author.Tests.{not-true, not-false, lt-ltb, le-ltb}
-use Rattle.slices.proofs.Laws.{rest-lent, part-lent}
+use Rattle.slices.specs.Parts.{part}
 use Rattle.numbers.specs.Choice.{pick}
 use Rattle.text_input.specs.Format.{lines, wrongFrom, wrongLine}
-use Rattle.text_input.proofs.Lines.{line-inside, wrong-at-end, wrong-here, right-here, rest-length}
+use Rattle.text_input.proofs.Lines.{line-ends-after, wrong-at-end, wrong-here, right-here}
 use borrow.Author.Needs.{needs}
 use Rattle.text_input.proofs.wrong_line.Statement.{statement}
 use Rattle.text_input.proofs.wrong_line.Tie as tie
@@ -23,47 +23,29 @@ loop-holds : tie.Need-loop-holds Inv-loop μ-loop
 unfolding wrongLine
 loop-holds c = (search needs, search needs, refl)
 
-add-end : tie.Need-add-end Inv-loop μ-loop
-add-end c =
-    let h = rest-length (c .before .before .before .before .before .args .input .now) (c .before .before .before .loop .at) _ (c .line-length .ensures .1) (c .before .before .before .loop .inv .0) in
-    search (needs, h)
-
-part-right-line-end : tie.Need-part-right-line-end Inv-loop μ-loop
-part-right-line-end c =
-    let h = rest-length (c .before .before .before .before .before .args .input .now) (c .before .before .before .loop .at) _ (c .line-length .ensures .1) (c .before .before .before .loop .inv .0) in
-    search (needs, h)
-
 returns : tie.Need-returns Inv-loop μ-loop
+unfolding part
 returns c =
-    let l = c .before .before .before .before .before .before .loop in
-    let k = rw (rest-lent (c .before .before .before .before .before .before .before .before .args .input .now) (l .at)) at (c .before .before .before .line-length .ensures .0) in
-    wrong-here (c .before .before .before .before .before .before .before .before .args .input .now) (l .at) (l .n) _ _ _ (l .inv .2) (search needs) k (rw part-lent at (c .before .right-line .ensures)) (not-true _ (c .if1 .taken))
+    let l = c .before .before .before .before .before .loop in
+    wrong-here (c .before .before .before .before .before .before .before .args .input .now) (l .at) (l .n) _ _ _ (l .inv .2) (c .before .before .before .line-end .ensures .0) (c .before .right-line .ensures) (search needs) (not-true _ (c .if1 .taken))
 
 loop-less : tie.Need-loop-less Inv-loop μ-loop
-loop-less c =
-    let l = c .before .before .before .before .before .before .loop in
-    let k = rw (rest-lent (c .before .before .before .before .before .before .before .before .args .input .now) (l .at)) at (c .before .before .before .line-length .ensures .0) in
-    let i = line-inside (c .before .before .before .before .before .before .before .before .args .input .now) (l .at) _ k (search needs) in
-    omega (arith, i)
+loop-less c = omega (arith, line-ends-after (c .before .before .before .before .before .before .before .args .input .now) (c .before .before .before .before .before .loop .at) _ (c .before .before .before .line-end .ensures .0) (search needs))
 
 loop-again : tie.Need-loop-again Inv-loop μ-loop
+unfolding part
 loop-again c =
-    let l = c .before .before .before .before .before .before .loop in
-    let k = rw (rest-lent (c .before .before .before .before .before .before .before .before .args .input .now) (l .at)) at (c .before .before .before .line-length .ensures .0) in
-    let i = line-inside (c .before .before .before .before .before .before .before .before .args .input .now) (l .at) _ k (search needs) in
-    (omega (arith, i), omega (arith, i), right-here (c .before .before .before .before .before .before .before .before .args .input .now) (l .at) (l .n) _ _ _ (l .inv .2) (search needs) k (rw part-lent at (c .before .right-line .ensures)) (not-false _ (c .if1 .left)))
+    let l = c .before .before .before .before .before .loop in
+    let after = line-ends-after (c .before .before .before .before .before .before .before .args .input .now) (l .at) _ (c .before .before .before .line-end .ensures .0) (search needs) in
+    (search needs, omega (arith, after), right-here (c .before .before .before .before .before .before .before .args .input .now) (l .at) (l .n) _ _ _ (l .inv .2) (c .before .before .before .line-end .ensures .0) (c .before .right-line .ensures) (search needs) (not-false _ (c .if1 .left)))
 
 returns-2 : tie.Need-returns-2 Inv-loop μ-loop
 unfolding pick
-returns-2 c =
-    let l = c .before .before .loop in
-    sym (wrong-at-end (c .before .before .before .before .args .input .now) (l .at) (l .n) _ (l .inv .2) (search needs) ∙ simp (lt-ltb _ _ (c .if2 .taken)))
+returns-2 c = sym (wrong-at-end (c .before .before .before .before .args .input .now) (c .before .before .loop .at) (c .before .before .loop .n) _ (c .before .before .loop .inv .2) (search needs) ∙ simp (lt-ltb _ _ (c .if2 .taken)))
 
 returns-3 : tie.Need-returns-3 Inv-loop μ-loop
 unfolding pick
-returns-3 c =
-    let l = c .before .before .loop in
-    sym (wrong-at-end (c .before .before .before .before .args .input .now) (l .at) (l .n) _ (l .inv .2) (search needs) ∙ simp (le-ltb _ _ (c .if2 .left)))
+returns-3 c = sym (wrong-at-end (c .before .before .before .before .args .input .now) (c .before .before .loop .at) (c .before .before .loop .n) _ (c .before .before .loop .inv .2) (search needs) ∙ simp (le-ltb _ _ (c .if2 .left)))
 
 pub wrong-line-spec : {M : Type 1} → statement M
 wrong-line-spec =
@@ -72,14 +54,10 @@ wrong-line-spec =
     Inv-loop
     μ-loop
     loop-holds
-    (search needs)  -- sub-line-length
-    (search needs)  -- part-line-length-start
-    (search needs)  -- part-line-length-end
-    (search needs)  -- line-length-requires
-    add-end
+    (search needs)  -- line-end-requires
     (search needs)  -- sub-right-line
     (search needs)  -- part-right-line-start
-    part-right-line-end
+    (search needs)  -- part-right-line-end
     (search needs)  -- right-line-requires
     returns
     (search needs)  -- add-n

@@ -1,4 +1,4 @@
--- `text_input::line_length` meets its contract. The invariant: the line is i bytes, and the line that begins there. The measure: the bytes left.
+-- `text_input::line_end` meets its contract. The invariant: the line ends where one that begins at i does. The measure: the bytes left.
 -- Assumes nothing.
 use Prim.Native.Nat.{_+_, _≤_, _-_}
 use native.Mathlib.Omega.{arith}
@@ -7,14 +7,14 @@ use lib.ListN.{length, drop}
 use Rattle.text_input.specs.Reads.{lineLength}
 use Rattle.text_input.proofs.Lines.{no-line, line-ends, line-goes-on}
 use borrow.Author.Needs.{needs}
-use Rattle.text_input.proofs.line_length.Statement.{statement}
-use Rattle.text_input.proofs.line_length.Tie as tie
+use Rattle.text_input.proofs.line_end.Statement.{statement}
+use Rattle.text_input.proofs.line_end.Tie as tie
 
 abbrev Inv-loop : tie.InvT-loop
-Inv-loop input i₀ i = (i ≤ length input) × (lineLength input ≡ i + lineLength (drop i input))
+Inv-loop input at i₀ i = (i ≤ length input) × (at + lineLength (drop at input) ≡ i + lineLength (drop i input))
 
 abbrev μ-loop : tie.MeasureT-loop
-μ-loop input i₀ i = length input - i
+μ-loop input at i₀ i = length input - i
 
 returns : tie.Need-returns Inv-loop μ-loop
 returns c =
@@ -31,8 +31,8 @@ returns-2 c =
     let l = c .before .loop in
     (omega (arith, l .inv .1, no-line (c .before .before .args .input .now) (l .i) (search needs)), search needs)
 
-pub line-length-spec : {M : Type 1} → statement M
-line-length-spec =
+pub line-end-spec : {M : Type 1} → statement M
+line-end-spec =
     tie.close
     (tie.spec
     Inv-loop
