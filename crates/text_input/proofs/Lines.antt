@@ -12,6 +12,7 @@ use lib.Seq.{drop-cons, drop-drop, getD-drop}
 use borrow.Author.Tests.{eq-eqb, ne-eqb}
 use Rattle.slices.specs.Parts.{part}
 use Rattle.numbers.specs.Choice.{pick}
+use Rattle.numbers.proofs.Choice.{pick-ind}
 use Rattle.text_output.specs.Printout.{lineFeed}
 use Rattle.text_input.specs.Format.{onto, lines, rightLine, wrongFrom}
 use Rattle.text_input.specs.Reads.{lineLength}
@@ -32,20 +33,15 @@ line-goes-on input i all e h c =
     let next : drop (suc i) input ≡ drop (i + 1) input = rw add-one in
     e ∙ rw (drop-cons input i 0 h, ne-eqb _ _ c, next) (omega arith)
 
-fits : (b : Bool) (k n : ℕ) → k ≤ n → (1 ≤ pick b 1 (suc k)) × (pick b 1 (suc k) ≤ suc n)
-unfolding pick
-fits true k n h = (omega arith, omega arith)
-fits false k n h = (omega arith, omega arith)
-
 pub line-fits : (input : List ℕ) → lineLength input ≤ length input
 unfolding lineLength
 line-fits [] = omega arith
-line-fits (c ∷ input) = fits (eqb c lineFeed) (lineLength input) (length input) (line-fits input) .1
+line-fits (c ∷ input) = pick-ind (λ (k : ℕ). k ≤ suc (length input)) _ _ _ (λ _. omega arith) (λ _. omega (arith, line-fits input))
 
 pub some-line : (input : List ℕ) → 0 < length input → 1 ≤ lineLength input
 unfolding lineLength
 some-line [] h = absurd (omega arith)
-some-line (c ∷ input) h = fits (eqb c lineFeed) (lineLength input) (length input) (line-fits input) .0
+some-line (c ∷ input) h = pick-ind (λ (k : ℕ). 1 ≤ k) _ _ _ (λ _. omega arith) (λ _. omega arith)
 
 -- a line ends after where it begins
 pub line-ends-after : (input : List ℕ) (at end : ℕ) → end ≡ at + lineLength (drop at input) → at < length input → at < end

@@ -14,8 +14,9 @@ use Rattle.slices.specs.Parts.{part}
 use Rattle.slices.proofs.Laws.{length-part, put-lent-front}
 use Rattle.numbers.specs.Choice.{pick}
 use Rattle.text_digits.specs.Digits.{isHex, bytesIn}
+use Rattle.numbers.proofs.Choice.{pick-ind}
 use Rattle.numbers.proofs.Joined.{both-true}
-use Rattle.text_input.specs.Format.{Field, lines, blocks, numberOf, storage, ccw, value, bytesOf, hexLine, rightLine, wrongFrom, wrongLine, chainIn, exerciseIn}
+use Rattle.text_input.specs.Format.{Field, lines, blocks, numberOf, storage, ccw, value, bytesOf, hexLine, lastCcw, rightLine, wrongFrom, wrongLine, chainIn, exerciseIn}
 use Rattle.text_input.specs.Reads.{lineLength, held, ReadTo}
 use Rattle.text_input.proofs.Lines.{no-lines, lines-at}
 use Rattle.text_input.proofs.Values.{length-value, keyed-long}
@@ -27,14 +28,9 @@ pub missing : (n : ℕ) → 1 ≤ n → n ≤ 5 → wrongFrom n [] ≡ 0 → ⊥
 unfolding wrongFrom pick
 missing n h m e = omega (arith, rw (le-ltb 5 n m) at e)
 
-picked : (b : Bool) (n later : ℕ) → 1 ≤ n → pick b later n ≡ 0 → (b ≡ true) × (later ≡ 0)
-unfolding pick
-picked true n later h e = (refl, e)
-picked false n later h e = absurd (omega arith)
-
 pub all-right : (n : ℕ) (l : List ℕ) (ls : List (List ℕ)) → 1 ≤ n → wrongFrom n (l ∷ ls) ≡ 0 → (rightLine n l ≡ true) × (wrongFrom (n + 1) ls ≡ 0)
 unfolding wrongFrom
-all-right n l ls h e = picked (rightLine n l) n (wrongFrom (n + 1) ls) h e
+all-right n l ls h e = pick-ind (λ (r : ℕ). r ≡ 0 → (rightLine n l ≡ true) × (wrongFrom (n + 1) ls ≡ 0)) (rightLine n l) (wrongFrom (n + 1) ls) n (λ t z. (t, z)) (λ _ z. absurd (omega arith)) e
 
 pub later-right : (i n : ℕ) (ls : List (List ℕ)) → 1 ≤ n → n + i ≤ 5 → wrongFrom n ls ≡ 0 → wrongFrom (n + i) (drop i ls) ≡ 0
 later-right zero n ls h m e = rw add-zero e
@@ -51,11 +47,6 @@ right-from input i at h e f = rw f at (later-right i 1 (lines input) (omega arit
 pub right-here : (input : List ℕ) (at n end : ℕ) → 1 ≤ n → at < length input → end ≡ at + lineLength (drop at input) → wrongFrom n (lines (drop at input)) ≡ 0
     → (rightLine n (part input at (end - at)) ≡ true) × (wrongFrom (n + 1) (lines (drop end input)) ≡ 0)
 right-here input at n end h m f e = all-right n (part input at (end - at)) (lines (drop end input)) h (rw (lines-at input at end f m) at e)
-
-ccw-picked : (b right : Bool) → pick b false right ≡ true → (b ≡ false) × (right ≡ true)
-unfolding pick
-ccw-picked true right e = absurd (false≢true e)
-ccw-picked false right e = (refl, e)
 
 -- a line of bytes: its length, and that there are not too many
 pub hex-is : (f : Field) (l : List ℕ) → hexLine f l ≡ true
@@ -79,9 +70,10 @@ storage-right l e = e
 pub ccw-right : (n : ℕ) (l : List ℕ) → rightLine (5 + n) l ≡ true → (hexLine ccw l ≡ true) × (n < 32)
 unfolding rightLine pick
 ccw-right n l e =
-    let p = ccw-picked (ltb 36 (5 + n)) (hexLine ccw l) (rw (ne-eqb (5 + n) 1 (λ (h : 5 + n ≡ 1). omega arith), ne-eqb (5 + n) 2 (λ (h : 5 + n ≡ 2). omega arith), ne-eqb (5 + n) 3 (λ (h : 5 + n ≡ 3). omega arith), ne-eqb (5 + n) 4 (λ (h : 5 + n ≡ 4). omega arith)) at e) in
-    let few : 5 + n ≤ 36 = ltb-false _ _ (p .0) in
-    (p .1, omega arith)
+    pick-ind (λ (r : Bool). r ≡ true → (hexLine ccw l ≡ true) × (n < 32)) (ltb lastCcw (5 + n)) false (hexLine ccw l)
+    (λ _ r. absurd (false≢true r))
+    (λ f r. (r, omega (arith, ltb-false lastCcw (5 + n) f)))
+    (rw (ne-eqb (5 + n) 1 (λ (h : 5 + n ≡ 1). omega arith), ne-eqb (5 + n) 2 (λ (h : 5 + n ≡ 2). omega arith), ne-eqb (5 + n) 3 (λ (h : 5 + n ≡ 3). omega arith), ne-eqb (5 + n) 4 (λ (h : 5 + n ≡ 4). omega arith)) at e)
 
 -- no ccw line is left
 pub chain-done : (input : List ℕ) (at : ℕ) → length input ≤ at → chainIn (lines (drop at input)) ≡ []
