@@ -2,7 +2,6 @@
 use Prim.Native.Nat.{ℕ, zero, suc, _≤_, _<_}
 use native.Mathlib.Omega.{arith}
 use mathlib.Core.Path.{_≡_, refl}
-use mathlib.Core.Bool.{Bool, true, false}
 use mathlib.Core.List.{List}
 use lib.Dec.{eqb}
 use lib.ListN.{length, replicate}
@@ -12,7 +11,6 @@ use Rattle.numbers.proofs.Bytes.{bytes-nil, bytes-cons, bytes-append}
 use Rattle.slices.specs.Parts.{zeros}
 use Rattle.slices.proofs.Laws.{length-zeros, bytes-zeros}
 use Rattle.model.specs.declared.record.Record.{Record}
-use Rattle.numbers.specs.Choice.{pick}
 use Rattle.model.specs.Rules.{firstOf}
 use Rattle.model.specs.Lent.{newRecord}
 use Rattle.model.specs.Causes.{callCauses}
@@ -78,12 +76,7 @@ performed-length input e =
     let sizes = call-lengths classA (x .chain) (x .storage) store u answers in
     printout-within _ _ _ _ _ (small-cause (x .chain) (x .storage) store u answers) (reached-few (x .chain) (x .storage) store u answers _ refl) (bytes .answers-bytes) (omega (arith, sizes .main-length, storage-few input e)) (bytes .unit-fields .sense-length)
 
-fits-picked : (b : Bool) (said refused : List ℕ) (n : ℕ) → (b ≡ true → length said ≤ n) → length refused ≤ n → length (pick b said refused) ≤ n
-unfolding pick
-fits-picked true said refused n f g = f refl
-fits-picked false said refused n f g = g
-
 pub printout-fits : (input : List ℕ) → length (exercise input) ≤ 4474
 unfolding exercise
 printout-fits input =
-    fits-picked (eqb (wrongLine input) 0) _ _ 4474 (λ e. performed-length input (eqb-true _ _ e)) (omega (arith, refusal-within (wrongLine input) (omega (arith, wrong-few input))))
+    pick-ind (λ (l : List ℕ). length l ≤ 4474) (eqb (wrongLine input) 0) _ _ (λ e. performed-length input (eqb-true _ _ e)) (λ _. omega (arith, refusal-within (wrongLine input) (omega (arith, wrong-few input))))
