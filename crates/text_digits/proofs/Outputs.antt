@@ -30,10 +30,6 @@ adds-whole {out} {text} {r} a h =
     let long : r ≡ length text = omega arith in
     (long, rw (a .bytes, take-all (length out - 0) text (omega arith)) (take-at text _ r (sym long)))
 
--- no place past the output's end is reached from one within it
-pub adds-within : {out : List ℕ} {at : ℕ} {text : List ℕ} {r : ℕ} {back : List ℕ} → Adds out at text r back → at ≤ length out → r ≤ length out
-adds-within a h = omega arith
-
 take-both : (n : ℕ) (a b : List ℕ) → take n (a ++ b) ≡ take n a ++ take (n - length a) b
 take-both zero a b = rw zero-sub
 take-both (suc n) [] b = rw sub-zero

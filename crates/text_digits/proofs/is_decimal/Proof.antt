@@ -9,16 +9,6 @@ use borrow.Author.Needs.{needs}
 use Rattle.text_digits.proofs.is_decimal.Statement.{statement}
 use Rattle.text_digits.proofs.is_decimal.Tie as tie
 
-array-share-prefix-digits : tie.Need-array-share-prefix-digits
-array-share-prefix-digits c =
-    let w = adds-whole (c .before .add-decimal .ensures) (decimal-short (c .before .before .before .before .args .n) (search needs)) in
-    omega (arith, w .0, decimal-short (c .before .before .before .before .args .n) (search needs), c .before .add-decimal .kept .0)
-
-slice-aggregate-same : tie.Need-slice-aggregate-same
-slice-aggregate-same c =
-    let w = adds-whole (c .before .before .add-decimal .ensures) (decimal-short (c .before .before .before .before .before .args .n) (search needs)) in
-    sym (length-take-le _ _ (omega (arith, w .0, decimal-short (c .before .before .before .before .before .args .n) (search needs), c .before .before .add-decimal .kept .0)))
-
 returns : tie.Need-returns
 returns c =
     let w = adds-whole (c .before .before .before .add-decimal .ensures) (decimal-short (c .before .before .before .before .before .before .args .n) (search needs)) in
@@ -30,7 +20,7 @@ is-decimal-spec =
     (tie.spec
     (search needs)  -- slice-aggregate-add-decimal
     (search needs)  -- add-decimal-requires
-    array-share-prefix-digits
-    slice-aggregate-same
+    (search needs)  -- array-share-prefix-digits
+    (λ c. sym (length-take-le _ _ (omega arith)))  -- slice-aggregate-same
     (search needs)  -- same-requires
     returns)
