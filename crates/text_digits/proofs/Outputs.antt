@@ -1,5 +1,5 @@
 -- Laws of `Adds`: nothing fits, some fits, more is added. No contract cites this file.
-use Prim.Native.Nat.{ℕ, zero, suc, _+_, _-_, _≤_, _<_, min}
+use Prim.Native.Nat.{ℕ, zero, suc, _+_, _-_, _≤_, min}
 use native.Mathlib.Nat.{zero-min, min-zero, add-zero, sub-zero, zero-sub, suc-sub-suc}
 use native.Mathlib.Decide.{decLe}
 use native.Mathlib.Omega.{arith}

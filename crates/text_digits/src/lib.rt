@@ -4,7 +4,7 @@ ghost use mathlib.Core.Path.{_≡_};
 ghost use Prim.Native.Nat.{_+_, _%_, _≤_, _<_};
 ghost use lib.ListN.{length};
 ghost use mathlib.Core.List.{[], _∷_};
-ghost use Rattle.text_digits.specs.Digits.{digit, decimal, sixDigits, hex, valueOf, isDigit, isHex, allDigits, bytesIn, same};
+ghost use Rattle.text_digits.specs.Digits.{digit, decimal, sixDigits, hex, valueOf, isHex, allDigits, bytesIn, same};
 ghost use Rattle.text_digits.specs.Output.{Adds, mostAtOnce};
 
 // The character of a digit.

@@ -22,7 +22,7 @@ use Rattle.model.proofs.Lengths.{call-lengths}
 use Rattle.in_place.proofs.Reached.{reached-few}
 use Rattle.text_digits.specs.Digits.{sixDigits}
 use Rattle.text_output.specs.Printout.{printout}
-use Rattle.text_output.proofs.Sizes.{printout-within, refusal-within}
+use Rattle.text_output.proofs.Sizes.{mostPrinted, printout-within, refusal-within}
 use Rattle.text_input.specs.Format.{lines, wrongLine, Exercise, exerciseIn}
 use Rattle.text_input.proofs.Sizes.{wrong-few, settings-few, storage-bytes, storage-few, chain-bytes}
 use Rattle.text_input.proofs.Rights.{few-blocks}
@@ -64,7 +64,7 @@ small-cause chain main store u answers =
     P : ℕ → Type 0
     P n = n < sixDigits
 
-performed-length : (input : List ℕ) → wrongLine input ≡ 0 → length (printout (performed (exerciseIn (lines input)))) ≤ 4474
+performed-length : (input : List ℕ) → wrongLine input ≡ 0 → length (printout (performed (exerciseIn (lines input)))) ≤ mostPrinted
 unfolding performed
 performed-length input e =
     let x : Exercise = exerciseIn (lines input) in
@@ -76,7 +76,7 @@ performed-length input e =
     let sizes = call-lengths classA (x .chain) (x .storage) store u answers in
     printout-within _ _ _ _ _ (small-cause (x .chain) (x .storage) store u answers) (reached-few (x .chain) (x .storage) store u answers _ refl) (bytes .answers-bytes) (omega (arith, sizes .main-length, storage-few input e)) (bytes .unit-fields .sense-length)
 
-pub printout-fits : (input : List ℕ) → length (exercise input) ≤ 4474
+pub printout-fits : (input : List ℕ) → length (exercise input) ≤ mostPrinted
 unfolding exercise
 printout-fits input =
-    pick-ind (λ (l : List ℕ). length l ≤ 4474) (eqb (wrongLine input) 0) _ _ (λ e. performed-length input (eqb-true _ _ e)) (λ _. omega (arith, refusal-within (wrongLine input) (omega (arith, wrong-few input))))
+    pick-ind (λ (l : List ℕ). length l ≤ mostPrinted) (eqb (wrongLine input) 0) _ _ (λ e. performed-length input (eqb-true _ _ e)) (λ _. omega (arith, refusal-within (wrongLine input) (omega (arith, wrong-few input))))

@@ -2,15 +2,15 @@
 use Prim.Native.Nat.{ℕ, _+_, _-_, _*_, _≤_, _<_}
 use native.Mathlib.Decide.{decLe}
 use native.Mathlib.Omega.{arith}
-use mathlib.Core.Path.{_≡_, refl, sym}
-use mathlib.Core.Bool.{Bool, true}
+use mathlib.Core.Path.{_≡_}
+use mathlib.Core.Bool.{true}
 use mathlib.Core.List.{List, [], _∷_}
 use lib.ListN.{length, getD, drop}
 use Rattle.numbers.specs.Bytes.{AreBytes}
 use Rattle.numbers.proofs.Bytes.{bytes-nil, bytes-cons, bytes-append}
 use Rattle.numbers.proofs.Choice.{pick-ind}
 use Rattle.text_digits.specs.Digits.{valueOf, bytesIn}
-use Rattle.text_input.specs.Format.{lines, mostStorage, ready, readonly, storage, value, bytesOf, rightLine, wrongFrom, wrongLine, Exercise, chainIn, exerciseIn}
+use Rattle.text_input.specs.Format.{lines, mostStorage, ready, readonly, storage, bytesOf, rightLine, wrongFrom, wrongLine, Exercise, chainIn, exerciseIn}
 use Rattle.text_input.proofs.Values.{length-value, number-bounded}
 use Rattle.text_input.proofs.Reading.{decoded-length}
 use Rattle.text_input.proofs.Rights.{storage-line, ccw-right, hex-is}

@@ -1,4 +1,4 @@
-// The input, line by line: whether it is right (`wrong_line`), and what a right one says (`number_at`, `storage_in`, `chain_in`).
+// The input, line by line: whether it is right (`wrong_line`), and what a right one says (`settings_in`, `storage_in`, `chain_in`).
 // A line counts with the line feed that ends it.
 use text_digits::decode;
 use text_digits::is_decimal;
@@ -47,7 +47,7 @@ struct Line {
     end: usize,
 }
 
-// Where the line that begins at a place ends, after its line feed; it has none where the input ends.
+// Where the line that begins at a place ends: after its line feed, or where the input ends.
 fn line_end(input: &[u8], at: usize) -> usize
     requires { ⌜ at ≤ length (now input) ⌝ }
     ensures { λ r. ⌜ (r ≡ at + lineLength (drop at (now (input .entry)))) × (r ≤ length (now (input .entry))) ⌝ }

@@ -1,5 +1,6 @@
 -- How long a printout is at most. No contract cites this file.
---     Within   a text has no more than n bytes
+--     Within        a text has no more than n bytes
+--     mostPrinted   the bytes of the longest printout
 use Prim.Native.Nat.{ℕ, zero, suc, _+_, _*_, _≤_, _<_}
 use native.Mathlib.Omega.{arith}
 use mathlib.Core.Path.{_≡_, refl}
@@ -60,8 +61,11 @@ commands-within answers (suc n) h b =
     let more = commands-within answers n (omega arith) b with status-within answers n (omega arith) with count-within answers n b in
     record { is = omega (arith, more .is) }
 
+abbrev pub mostPrinted : ℕ
+mostPrinted = 4474
+
 pub printout-within : (cause reached : ℕ) (answers main sense : List ℕ) → cause < sixDigits → reached ≤ 32 → AreBytes answers → length main ≤ 1024 → length sense ≡ 24
-    → length (printoutOf cause reached answers main sense) ≤ 4474
+    → length (printoutOf cause reached answers main sense) ≤ mostPrinted
 unfolding printoutOf
 printout-within cause reached answers main sense c r b m s =
     let whole =

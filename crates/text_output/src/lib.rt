@@ -2,7 +2,6 @@
 use text_digits::add;
 use text_digits::add_decimal;
 use text_digits::add_hex;
-ghost use mathlib.Core.Path.{_≡_};
 ghost use Prim.Native.Nat.{_+_, _*_, _≤_};
 ghost use lib.ListN.{length};
 ghost use Rattle.model.specs.Answer.{answerSize};
