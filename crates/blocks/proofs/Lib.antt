@@ -1,1 +1,1 @@
-pub mod Transfers
+pub mod Areas

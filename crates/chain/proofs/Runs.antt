@@ -12,25 +12,25 @@ use native.Mathlib.Nat.{sub-zero}
 use native.Mathlib.Omega.{arith}
 use borrow.Author.Tests.{eq-eqb, ne-eqb}
 use Rattle.numbers.specs.Big.{bytes8}
-use Rattle.moves.specs.Parts.{put}
-use Rattle.moves.proofs.Laws.{put-second}
+use Rattle.slices.specs.Parts.{put}
+use Rattle.slices.proofs.Laws.{put-second}
 use Rattle.model.specs.declared.ccw.Ccw.{Ccw}
 use Rattle.model.specs.declared.record.Record.{Record}
 use Rattle.model.specs.State.{State}
 use Rattle.model.specs.Names.{chain-command, INCORRECT-LENGTH}
-use Rattle.model.specs.Rules.{_=?_, pick}
+use Rattle.numbers.specs.Choice.{_=?_, pick}
 use Rattle.model.specs.Lent.{ccwAt, flag, blockCount}
 use Rattle.model.specs.Commands.{Out, step}
 use Rattle.model.specs.Answer.{answerOf}
 use Rattle.model.specs.Chain.{System, system, stepAt, next, more, run, called}
 use Rattle.model.specs.Safe.{Safe}
 use Rattle.numbers.proofs.Joined.{both-true}
-use Rattle.model.proofs.Picks.{pick-true, pick-false}
+use Rattle.numbers.proofs.Choice.{pick-true, pick-false}
 use Rattle.model.proofs.Lengths.{Going, next-going, some-block}
 use Rattle.model.proofs.Endings.{Callable}
-use Rattle.running.specs.Standing.{stateLeft}
-use Rattle.outcomes.specs.declared.Done.{Done}
-use Rattle.outcomes.specs.Report.{marked, reported, report, Outcome, outcome, outcomeOf}
+use Rattle.unit_state.specs.Standing.{stateLeft}
+use Rattle.endings.specs.declared.Done.{Done}
+use Rattle.endings.specs.Report.{marked, reported, report, Outcome, outcome, outcomeOf}
 use Rattle.chain.specs.Promises.{Runnable}
 
 pub run-done : (size : ℕ) (chain : List ℕ) (n i : ℕ) (y : System) → n ≡ 0 → run size chain n i y ≡ y

@@ -3,13 +3,13 @@ use crate::run::Walked;
 use crate::run::run_chain;
 use channel::causes::call_cause;
 use model::record::Record;
-use running::record_left;
-use running::start;
+use unit_state::record_left;
+use unit_state::start;
 ghost use mathlib.Core.Path.{_≡_};
 ghost use Rattle.model.specs.Rules.{firstOf};
 ghost use Rattle.model.specs.Causes.{callCauses};
 ghost use Rattle.model.specs.Chain.{call, classA};
-ghost use Rattle.running.specs.Standing.{stateLeft};
+ghost use Rattle.unit_state.specs.Standing.{stateLeft};
 
 // Class A: bytes of a block.
 pub const BLOCK_SIZE: usize = 512;

@@ -2,20 +2,20 @@
 use channel::ccw::ccw_at;
 use model::record::Record;
 use model::status::Channel;
-use running::Left;
-use running::Running;
 use unit::step;
+use unit_state::Left;
+use unit_state::Running;
 ghost use mathlib.Core.Path.{_≡_};
 ghost use mathlib.Core.Bool.{true, not, _&&_};
 ghost use Prim.Native.Nat.{ℕ, _+_, _*_, _/_, _≤_, _<_};
 ghost use lib.ListN.{length};
 ghost use Rattle.numbers.specs.Big.{bytes8};
-ghost use Rattle.moves.specs.Parts.{put};
-ghost use Rattle.model.specs.Rules.{_=?_};
+ghost use Rattle.slices.specs.Parts.{put};
+ghost use Rattle.numbers.specs.Choice.{_=?_};
 ghost use Rattle.model.specs.Lent.{blockCount};
 ghost use Rattle.model.specs.Chain.{system, next, more, run};
-ghost use Rattle.outcomes.specs.Report.{marked};
-ghost use Rattle.running.specs.Standing.{stateOf, stateLeft, Secure};
+ghost use Rattle.endings.specs.Report.{marked};
+ghost use Rattle.unit_state.specs.Standing.{stateOf, stateLeft, Secure};
 ghost use Rattle.chain.specs.Promises.{Runnable};
 
 // How one turn leaves the unit, and whether the chain goes on.
@@ -31,7 +31,7 @@ fn present(answers: &mut [u8], at: usize, answer: u64, cause: u8, wrong: bool) -
     ensures { λ r. ⌜ (now (answers .exit) ≡ put (now (answers .entry)) at (marked (cause =? 0 && wrong) (bytes8 answer))) × (r ≡ (cause =? 0 && not wrong)) ⌝ }
 {
     let bytes = numbers::bytes8(answer);
-    moves::put_at(answers, at, &bytes, 8);
+    slices::put_at(answers, at, &bytes, 8);
     if cause != 0 {
         return false;
     }

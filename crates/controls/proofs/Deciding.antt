@@ -8,7 +8,7 @@ use mathlib.Core.Bool.{Bool, true, false}
 use mathlib.Core.List.{List}
 use native.Mathlib.Omega.{arith}
 use borrow.Author.Tests.{eq-eqb, ne-eqb}
-use Rattle.moves.specs.Parts.{zeros}
+use Rattle.slices.specs.Parts.{zeros}
 use Rattle.model.specs.declared.ccw.Ccw.{Ccw}
 use Rattle.model.specs.declared.state.Before.the-variants.{Other}
 use Rattle.model.specs.declared.extent.Extent.{Extent}
@@ -16,23 +16,24 @@ use Rattle.model.specs.declared.extent.Located.{Located}
 use Rattle.model.specs.declared.record.Record.{Record}
 use Rattle.model.specs.declared.record.Counts.{Counts}
 use Rattle.model.specs.State.{State, Done}
-use Rattle.model.specs.Rules.{pick, firstOf}
+use Rattle.numbers.specs.Choice.{pick}
+use Rattle.model.specs.Rules.{firstOf}
 use Rattle.model.specs.Log.{withSense, movementCounted}
 use Rattle.model.specs.Lent.{fetched}
 use Rattle.model.specs.Parameters.{extentLength, extentIn, locateLength, locatedIn}
 use Rattle.model.specs.Causes.{extentCauses, locationCauses}
 use Rattle.model.specs.Commands.{out, after, extentSet, locateSet, ended, defineExtent, locate, refusal, refused, decided}
 use Rattle.log.specs.Counts.{counted}
-use Rattle.running.specs.declared.Running.{Running}
-use Rattle.running.specs.Standing.{stateOf}
-use Rattle.running.proofs.Units.{zeroed}
-use Rattle.extents.specs.Answers.{definedNumber}
-use Rattle.extents.specs.declared.Defined.{Defined}
-use Rattle.extents.specs.declared.Defined.the-variants.{Taken, BadMask, Maintenance, BadSize, FirstAfterLast, PastDevice}
-use Rattle.locations.specs.Answers.{locationNumber}
-use Rattle.locations.specs.declared.Location.{Location}
-use Rattle.locations.specs.declared.Location.the-variants.{Found, BadModifier, BadOperation, BadCount, BadReplication, OutsideExtent, Forbidden, ReadOnly, NoAlternate}
-use Rattle.outcomes.specs.Cleared.{cleared}
+use Rattle.unit_state.specs.declared.Running.{Running}
+use Rattle.unit_state.specs.Standing.{stateOf}
+use Rattle.unit_state.proofs.Units.{zeroed}
+use Rattle.command_extent.specs.Answers.{definedNumber}
+use Rattle.command_extent.specs.declared.Defined.{Defined}
+use Rattle.command_extent.specs.declared.Defined.the-variants.{Taken, BadMask, Maintenance, BadSize, FirstAfterLast, PastDevice}
+use Rattle.command_locate.specs.Answers.{locationNumber}
+use Rattle.command_locate.specs.declared.Location.{Location}
+use Rattle.command_locate.specs.declared.Location.the-variants.{Found, BadModifier, BadOperation, BadCount, BadReplication, OutsideExtent, Forbidden, ReadOnly, NoAlternate}
+use Rattle.endings.specs.Cleared.{cleared}
 use Rattle.controls.specs.Controls.{defineDone, locateDone}
 
 pub defined-cause : (d : Defined) → (definedNumber d ≡ 0 → ⊥) → (20 ≤ definedNumber d) × (definedNumber d ≡ 39 → ⊥)

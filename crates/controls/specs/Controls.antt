@@ -4,10 +4,11 @@
 -- Assumes nothing.
 use Prim.Native.Nat.{ℕ}
 use mathlib.Core.List.{List}
-use Rattle.moves.specs.Parts.{zeros}
+use Rattle.slices.specs.Parts.{zeros}
 use Rattle.model.specs.declared.state.Before.the-variants.{Other}
 use Rattle.model.specs.State.{State, Done}
-use Rattle.model.specs.Rules.{_=?_, pick, firstOf}
+use Rattle.numbers.specs.Choice.{_=?_, pick}
+use Rattle.model.specs.Rules.{firstOf}
 use Rattle.model.specs.Parameters.{extentLength, extentIn, locateLength, locatedIn}
 use Rattle.model.specs.Causes.{extentCauses, locationCauses}
 use Rattle.model.specs.Log.{withSense, movementCounted}

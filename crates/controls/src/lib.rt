@@ -1,19 +1,19 @@
 // The control commands that have parameters: DEFINE EXTENT and LOCATE. They change no storage.
-use extents::define_parameters;
-use extents::extent_in;
-use locations::locate_parameters;
-use locations::located_in;
+use command_extent::define_parameters;
+use command_extent::extent_in;
+use command_locate::locate_parameters;
+use command_locate::located_in;
+use endings::Done;
+use endings::ended;
+use endings::refuse;
+use endings::unit_check;
 use log::movement_counted;
 use model::ccw::Ccw;
 use model::record::Record;
 use model::state::Before;
-use outcomes::Done;
-use outcomes::ended;
-use outcomes::refuse;
-use outcomes::unit_check;
-use running::Running;
-use running::extent_set;
-use running::locate_set;
+use unit_state::Running;
+use unit_state::extent_set;
+use unit_state::locate_set;
 ghost use mathlib.Core.Path.{_≡_};
 ghost use mathlib.Core.List.{List};
 ghost use Prim.Native.Nat.{ℕ, _+_, _≤_, _<_};
@@ -24,9 +24,9 @@ ghost use Rattle.model.specs.Lent.{fetched};
 ghost use Rattle.model.specs.Parameters.{extentLength, locateLength};
 ghost use Rattle.model.specs.Causes.{defineExtentCauses, locateCauses};
 ghost use Rattle.model.specs.Commands.{defineExtent, locate, decided};
-ghost use Rattle.running.specs.Standing.{stateOf};
-ghost use Rattle.outcomes.specs.Cleared.{cleared};
-ghost use Rattle.outcomes.specs.Report.{reported, report, outcome, outcomeOf};
+ghost use Rattle.unit_state.specs.Standing.{stateOf};
+ghost use Rattle.endings.specs.Cleared.{cleared};
+ghost use Rattle.endings.specs.Report.{reported, report, outcome, outcomeOf};
 ghost use Rattle.controls.specs.Controls.{defineDone, locateDone};
 
 pub const EXTENT_LENGTH: usize = 16;
@@ -69,7 +69,7 @@ fn eight(p: &[u8]) -> [u8; 8]
     ensures { λ r. ⌜ r ≡ now (p .entry) ⌝ }
 {
     let mut bytes = [0u8; 8];
-    moves::copy(p, &mut bytes, 8);
+    slices::copy(p, &mut bytes, 8);
     bytes
 }
 

@@ -9,8 +9,8 @@ use native.Mathlib.Nat.{le-of-eq}
 use native.Mathlib.Omega.{arith}
 use lib.ListN.{length, take, drop, set}
 use lib.Seq.{take-all, drop-length, sets-eq}
-use Rattle.moves.specs.Parts.{put}
-use Rattle.moves.proofs.Laws.{length-put-is, take-put}
+use Rattle.slices.specs.Parts.{put}
+use Rattle.slices.proofs.Laws.{length-put-is, take-put}
 use Rattle.model.specs.declared.record.Record.{Record}
 use Rattle.model.specs.Lent.{recordBytes}
 

@@ -1,12 +1,12 @@
 // The unit record and its 34 bytes (`unpack`, `pack`), and the record of a new unit. Any 34 bytes are a record: nothing is refused.
 use model::record::Record;
-use moves::copy;
-use moves::put_at;
+use slices::copy;
+use slices::put_at;
 ghost use mathlib.Core.Path.{_≡_};
 ghost use mathlib.Core.Bool.{true};
 ghost use Prim.Native.Nat.{_+_, _≤_};
 ghost use lib.ListN.{length};
-ghost use Rattle.moves.specs.Parts.{part};
+ghost use Rattle.slices.specs.Parts.{part};
 ghost use Rattle.model.specs.Lent.{recordBytes, recordOf, newRecord};
 
 // Where each field stands in the bytes; sense is first.

@@ -10,8 +10,8 @@ use native.Mathlib.Nat.{le-of-eq}
 use native.Mathlib.Omega.{arith}
 use lib.ListN.{length, take, set, replicate}
 use lib.Seq.{take-all}
-use Rattle.moves.specs.Parts.{zeros, put}
-use Rattle.moves.proofs.Laws.{length-zeros, length-put-is}
+use Rattle.slices.specs.Parts.{zeros, put}
+use Rattle.slices.proofs.Laws.{length-zeros, length-put-is}
 use Rattle.model.specs.declared.record.Record.{Record}
 use Rattle.model.specs.declared.record.Counts.{Counts}
 use Rattle.model.specs.Log.{withCounts, logOf}

@@ -1,12 +1,12 @@
 // The counts of the unit record, and the log that shows them: `Log::of` is what READ AND RESET BUFFERED LOG sends.
 // Nothing here is refused; a count that is full stays full.
 use model::record::Counts;
-use moves::least;
-use moves::put_at;
 use numbers::bytes2;
 use numbers::bytes3;
 use numbers::number2;
 use numbers::number3;
+use slices::least;
+use slices::put_at;
 ghost use mathlib.Core.Path.{_≡_};
 ghost use Prim.Native.Nat.{_<_};
 ghost use Rattle.model.specs.declared.record.Record.{Record};

@@ -13,8 +13,8 @@ use mathlib.Core.Bool.{true}
 use mathlib.Core.List.{List}
 use lib.ListN.{length, getD}
 use native.Mathlib.Omega.{arith}
-use Rattle.moves.specs.Parts.{part, put}
-use Rattle.moves.proofs.Laws.{length-put, get-part, get-before, get-in, get-after, by-place, part-same, part-apart}
+use Rattle.slices.specs.Parts.{part, put}
+use Rattle.slices.proofs.Laws.{length-put, get-part, get-before, get-in, get-after, by-place, part-same, part-apart}
 use Rattle.model.specs.declared.ccw.Ccw.{Ccw}
 use Rattle.model.specs.declared.extent.Displacement.{Displacement}
 use Rattle.model.specs.declared.extent.Extent.{Extent}

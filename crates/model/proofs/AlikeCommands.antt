@@ -12,12 +12,13 @@ use mathlib.Core.List.{List, [], _∷_}
 use lib.ListN.{length, take, length-take}
 use native.Mathlib.Omega.{arith}
 use borrow.Author.Tests.{eqb-true, ltb-false}
-use Rattle.moves.specs.Parts.{zeros}
+use Rattle.slices.specs.Parts.{zeros}
 use Rattle.model.specs.declared.ccw.Ccw.{Ccw}
 use Rattle.model.specs.declared.record.Record.{Record}
 use Rattle.model.specs.State.{State}
 use Rattle.model.specs.Names.{NO-OPERATION, DEFINE-EXTENT, LOCATE, READ, WRITE}
-use Rattle.model.specs.Rules.{_=?_, Rule, _when_, firstOf}
+use Rattle.numbers.specs.Choice.{_=?_}
+use Rattle.model.specs.Rules.{Rule, _when_, firstOf}
 use Rattle.model.specs.Lent.{fetched, delivered, blockCount, blocksFrom}
 use Rattle.model.specs.Parameters.{locateLength, locatedIn, address, reads, writes}
 use Rattle.model.specs.Causes.{channelCauses, unitCauses, extentCauses, defineExtentCauses, permissionCauses, locationCauses, locateCauses, readIplCauses, transferCauses, verdict, programCheck, a-locate}
@@ -26,7 +27,7 @@ use Rattle.model.specs.Log.{withSense, movementCounted, logOf, logReset}
 use Rattle.model.specs.Commands.{Out, after, extentSet, locateSet, noOperation, defineExtent, locate, sent, sense, senseType, readLog, begun, read, write, accepted, refusal, refused, seen, decided, step}
 use Rattle.model.specs.Safe.{InExtent, Safe}
 use Rattle.model.specs.Exactly.{absent}
-use Rattle.model.proofs.Picks.{pick-both}
+use Rattle.numbers.proofs.Choice.{pick-both}
 use Rattle.model.proofs.Verdicts.{never-given, failed-upto}
 use Rattle.model.proofs.Steps.{Admitted, accepted-cases, past-channel, own-cases, accepted-no-operation, accepted-define, accepted-locate, accepted-read, accepted-write, accepted-sense, accepted-sense-type, accepted-read-log}
 use Rattle.model.proofs.Safety.{after-locate, locate-ok, safe-seen}

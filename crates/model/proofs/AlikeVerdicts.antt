@@ -17,13 +17,14 @@ use Rattle.model.specs.declared.ccw.Ccw.{Ccw}
 use Rattle.model.specs.declared.extent.Extent.{Extent}
 use Rattle.model.specs.State.{State}
 use Rattle.model.specs.Names.{DEFINE-EXTENT, LOCATE, READ-IPL}
-use Rattle.model.specs.Rules.{_<?_, Rule, _when_, firstOf}
+use Rattle.numbers.specs.Choice.{_<?_}
+use Rattle.model.specs.Rules.{Rule, _when_, firstOf}
 use Rattle.model.specs.Lent.{fetched, blockCount}
 use Rattle.model.specs.Parameters.{extentLength, extentIn, reservedIn, sizeIn, locateLength, address, outside, reads, writes}
 use Rattle.model.specs.Causes.{channelCauses, unitCauses, extentCauses, defineExtentCauses, permissionCauses, locationCauses, locateCauses, transferCauses, ownCauses, causesOf, verdict}
 use Rattle.model.specs.Moved.{Among}
 use Rattle.model.specs.Exactly.{Failed}
-use Rattle.model.proofs.Picks.{pick-both}
+use Rattle.numbers.proofs.Choice.{pick-both}
 use Rattle.model.proofs.Verdicts.{first-same}
 use Rattle.model.proofs.Alike.{parameter-same, Place, Sound, States, Mains, Stores, sides, mains-part, count-same}
 

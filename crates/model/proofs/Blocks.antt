@@ -16,8 +16,8 @@ use lib.ListN.{length, getD, drop}
 use lib.Seq.{drop-drop}
 use native.Mathlib.Nat.{add-assoc, add-zero, zero-mul, mul-le-mul-right}
 use native.Mathlib.Omega.{arith}
-use Rattle.moves.specs.Parts.{part, put, pad}
-use Rattle.moves.proofs.Laws.{part-apart, part-put, length-put, length-pad, pad-zero, pad-more, part-nil, part-more, put-nil, put-more, get-before, get-in, get-after, get-pad, get-part}
+use Rattle.slices.specs.Parts.{part, put, pad}
+use Rattle.slices.proofs.Laws.{part-apart, part-put, length-put, length-pad, pad-zero, pad-more, part-nil, part-more, put-nil, put-more, get-before, get-in, get-after, get-pad, get-part}
 use Rattle.model.specs.Lent.{blockStart, blockAt, blocksFrom, blocksInto}
 
 pub blocks-from-part : (size : ℕ) (store : List ℕ) (block n : ℕ) → blocksFrom size store block n ≡ part store (block * size) (n * size)

@@ -11,7 +11,8 @@ use mathlib.Core.Path.{_≡_, refl}
 use mathlib.Core.List.{List, [], _∷_, _++_, map}
 use lib.ListN.{length, getD, drop, replicate}
 use Rattle.model.specs.Names.{NO-OPERATION, DEFINE-EXTENT, LOCATE, READ, WRITE, READ-IPL, SENSE, SENSE-TYPE, format, write-data, read-data, read-replicated}
-use Rattle.model.specs.Rules.{pick, Rule, firstOf}
+use Rattle.numbers.specs.Choice.{pick}
+use Rattle.model.specs.Rules.{Rule, firstOf}
 use Rattle.model.specs.Lent.{ccwAt, newRecord}
 use Rattle.model.specs.Causes.{callCauses, hostCauses, causesOf}
 use Rattle.model.specs.Chain.{System, system, start, classA}

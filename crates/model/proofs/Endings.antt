@@ -12,7 +12,7 @@ use Rattle.model.specs.Rules.{firstOf}
 use Rattle.model.specs.Lent.{ccwSize, blockCount}
 use Rattle.model.specs.Causes.{callCauses}
 use Rattle.model.specs.Chain.{System, system, next, run, start, callOf}
-use Rattle.model.proofs.Picks.{pick-ind}
+use Rattle.numbers.proofs.Choice.{pick-ind}
 use Rattle.numbers.proofs.Joined.{either-false}
 use Rattle.model.proofs.Verdicts.{failed-all}
 

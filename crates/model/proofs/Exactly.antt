@@ -20,7 +20,7 @@ use Rattle.model.specs.Commands.{step}
 use Rattle.model.specs.Chain.{Called, callOf}
 use Rattle.model.specs.Host.{Hosted, hostCallOf}
 use Rattle.model.specs.Exactly.{once, GivenExactly}
-use Rattle.model.proofs.Picks.{pick-ind}
+use Rattle.numbers.proofs.Choice.{pick-ind}
 use Rattle.model.proofs.Verdicts.{exactly}
 use Rattle.model.proofs.Steps.{own-cases, step-cause}
 use Rattle.model.proofs.Endings.{call-reached, callable}

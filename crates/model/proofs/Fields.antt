@@ -13,12 +13,13 @@ use borrow.Author.Tests.{eqb-true, ltb-true, ltb-false}
 use Rattle.numbers.specs.Bytes.{AreBytes}
 use Rattle.numbers.proofs.Bytes.{bytes-nil, bytes-cons, bytes-append, bytes-take, bytes-drop, bytes-tested}
 use Rattle.numbers.proofs.Big.{bytes2-are, bytes3-are}
-use Rattle.moves.specs.Parts.{zeros}
-use Rattle.moves.proofs.Laws.{length-zeros, length-part, length-put-is, bytes-zeros, bytes-part, bytes-put, bytes-pad}
+use Rattle.slices.specs.Parts.{zeros}
+use Rattle.slices.proofs.Laws.{length-zeros, length-part, length-put-is, bytes-zeros, bytes-part, bytes-put, bytes-pad}
 use Rattle.model.specs.declared.ccw.Ccw.{Ccw}
 use Rattle.model.specs.declared.record.Record.{Record}
 use Rattle.model.specs.State.{State}
-use Rattle.model.specs.Rules.{_<?_, _=?_, pick, Rule, firstOf}
+use Rattle.numbers.specs.Choice.{_<?_, _=?_, pick}
+use Rattle.model.specs.Rules.{Rule, firstOf}
 use Rattle.model.specs.Lent.{fetched, delivered, blockAt, blocksFrom, blocksInto}
 use Rattle.model.specs.Parameters.{locateLength}
 use Rattle.model.specs.Causes.{channelCauses, unitCauses, extentCauses, defineExtentCauses, permissionCauses, locationCauses, locateCauses, readIplCauses, transferCauses, ownCauses, causesOf, verdict}
@@ -26,7 +27,7 @@ use Rattle.model.specs.Sense.{SenseRow, senseTable, rowIn, senseOf}
 use Rattle.model.specs.Log.{withSense, withCounts, added3, added2, readCounted, writtenCounted, movementCounted, logOf, logReset}
 use Rattle.model.specs.Commands.{Out, noOperation, defineExtent, locate, sent, sense, senseType, readLog, begun, read, write, readIpl, refused, refusal, seen, after, extentSet, locateSet, step}
 use Rattle.model.specs.Exactly.{absent}
-use Rattle.model.proofs.Picks.{pick-ind}
+use Rattle.numbers.proofs.Choice.{pick-ind}
 use Rattle.numbers.proofs.Joined.{both-true}
 use Rattle.model.proofs.Verdicts.{peel, never-given}
 use Rattle.model.proofs.Safety.{define-ok, locate-ok}

@@ -14,12 +14,13 @@ use lib.ListN.{length}
 use native.Mathlib.Omega.{arith}
 use borrow.Author.Tests.{eqb-true, eqb-false, eq-eqb, ne-eqb, not-false}
 use Rattle.numbers.specs.Bytes.{AreBytes}
-use Rattle.model.specs.Rules.{_=?_, pick, _when_, firstOf}
+use Rattle.numbers.specs.Choice.{_=?_, pick}
+use Rattle.model.specs.Rules.{_when_, firstOf}
 use Rattle.model.specs.Lent.{recordSize, recordBytes, recordOf, newRecord}
 use Rattle.model.specs.Causes.{callCauses, hostCauses}
 use Rattle.model.specs.Chain.{callOf}
 use Rattle.model.specs.Host.{Hosted, resultOf, hosted, hostCallOf, setUp}
-use Rattle.model.proofs.Picks.{pick-ind, pick-true, pick-false}
+use Rattle.numbers.proofs.Choice.{pick-ind, pick-true, pick-false}
 use Rattle.model.proofs.Verdicts.{failed-upto, failed-all, none-given, first-append}
 use Rattle.model.proofs.Refusals.{call-refused, host-refused}
 use Rattle.model.proofs.Lengths.{call-lengths}

@@ -14,7 +14,7 @@ use Rattle.numbers.specs.Bytes.{AreBytes}
 use Rattle.numbers.specs.Big.{be2}
 use Rattle.numbers.proofs.Bytes.{bytes-nil, bytes-cons, bytes-append}
 use Rattle.numbers.proofs.Big.{bytes2-are, bytes2-hold, be2-fits}
-use Rattle.moves.proofs.Laws.{bytes-put}
+use Rattle.slices.proofs.Laws.{bytes-put}
 use Rattle.model.specs.declared.ccw.Ccw.{Ccw}
 use Rattle.model.specs.declared.record.Record.{Record}
 use Rattle.model.specs.State.{Done}
@@ -23,7 +23,7 @@ use Rattle.model.specs.Lent.{ccwSize, ccwAt, blockCount}
 use Rattle.model.specs.Causes.{callCauses}
 use Rattle.model.specs.Answer.{unitStatus, channelStatus, residual, answerOf}
 use Rattle.model.specs.Chain.{System, system, stepAt, next, run, start, Called, called, callOf}
-use Rattle.model.proofs.Picks.{pick-ind}
+use Rattle.numbers.proofs.Choice.{pick-ind}
 use Rattle.model.proofs.Endings.{callable}
 use Rattle.model.proofs.Lengths.{some-block}
 use Rattle.model.proofs.Fields.{IsRecord, step-fields}

@@ -11,8 +11,8 @@ use lib.ListN.{length, take, drop, length-take}
 use native.Mathlib.Nat.{mul-zero, mul-le-mul-right, div-mul-le-self, div-add-mod}
 use native.Mathlib.Omega.{arith}
 use borrow.Author.Tests.{eqb-true}
-use Rattle.moves.specs.Parts.{pad}
-use Rattle.moves.proofs.Laws.{length-put, length-pad}
+use Rattle.slices.specs.Parts.{pad}
+use Rattle.slices.proofs.Laws.{length-put, length-pad}
 use Rattle.model.specs.declared.ccw.Ccw.{Ccw}
 use Rattle.model.specs.declared.record.Record.{Record}
 use Rattle.model.specs.State.{State, Done}
@@ -25,7 +25,7 @@ use Rattle.model.specs.Commands.{Out, out, noOperation, defineExtent, lo
 use Rattle.model.specs.Answer.{answerSize, answerOf}
 use Rattle.model.specs.Chain.{System, system, stepAt, next, run, start, Called, called, callOf}
 use Rattle.model.specs.Safe.{Safe}
-use Rattle.model.proofs.Picks.{pick-ind}
+use Rattle.numbers.proofs.Choice.{pick-ind}
 use Rattle.model.proofs.Steps.{Admitted, Cases, step-cases}
 use Rattle.model.proofs.Endings.{callable}
 use Rattle.model.proofs.Safety.{on-device, after-locate, safe-start, step-safe}

@@ -1,4 +1,3 @@
-pub mod Picks
 pub mod Verdicts
 pub mod Steps
 pub mod Refusals

@@ -13,12 +13,13 @@ use mathlib.Core.List.{List}
 use lib.ListN.{length, getD}
 use native.Mathlib.Omega.{arith}
 use borrow.Author.Tests.{eqb-true, eqb-false}
-use Rattle.moves.proofs.Laws.{by-place}
+use Rattle.slices.proofs.Laws.{by-place}
 use Rattle.model.specs.declared.ccw.Ccw.{Ccw}
 use Rattle.model.specs.declared.record.Record.{Record}
 use Rattle.model.specs.State.{Done}
 use Rattle.model.specs.Names.{chain-command}
-use Rattle.model.specs.Rules.{_=?_, firstOf}
+use Rattle.numbers.specs.Choice.{_=?_}
+use Rattle.model.specs.Rules.{firstOf}
 use Rattle.model.specs.Lent.{ccwSize, ccwAt, flag, fetched, blockCount, recordSize, recordBytes, recordOf}
 use Rattle.model.specs.Parameters.{extentLength, extentIn}
 use Rattle.model.specs.Causes.{callCauses}
@@ -27,7 +28,7 @@ use Rattle.model.specs.Chain.{System, system, stepAt, next, more, run, s
 use Rattle.model.specs.Host.{hostCallOf}
 use Rattle.model.specs.Safe.{Safe}
 use Rattle.model.specs.Moved.{InChain, Among, extentAt, Moved, SameAfter, SameHosted}
-use Rattle.model.proofs.Picks.{pick-both}
+use Rattle.numbers.proofs.Choice.{pick-both}
 use Rattle.numbers.proofs.Joined.{both-true}
 use Rattle.model.proofs.Safety.{safe-start, step-safe}
 use Rattle.model.proofs.Hosts.{host-is-call, host-no-record}

@@ -12,10 +12,10 @@ use lib.ListN.{length, getD, drop, replicate}
 use native.Mathlib.Omega.{arith}
 use borrow.Author.Tests.{eqb-true, eqb-false, eq-eqb, ne-eqb, leb-true}
 use Rattle.numbers.proofs.Tables.{same-upto}
-use Rattle.moves.specs.Parts.{put}
-use Rattle.moves.proofs.Laws.{length-put, get-before, get-after, by-place}
+use Rattle.slices.specs.Parts.{put}
+use Rattle.slices.proofs.Laws.{length-put, get-before, get-after, by-place}
 use Rattle.model.specs.Names.{DEFINE-EXTENT, LOCATE, READ, WRITE, READ-IPL, write-data, read-data}
-use Rattle.model.specs.Rules.{_=?_}
+use Rattle.numbers.specs.Choice.{_=?_}
 use Rattle.model.specs.Lent.{ccwAt, blockAt, newRecord}
 use Rattle.model.specs.Chain.{Called, call, classA}
 use Rattle.model.specs.Moved.{SameBut, OneExtent, ParametersAlone, Moved}

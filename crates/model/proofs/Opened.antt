@@ -2,8 +2,9 @@
 -- No contract cites this file.
 use Prim.Native.Nat.{ℕ}
 use Rattle.numbers.specs.Bits.{bit, anyBit}
-use Rattle.moves.specs.Parts.{zeros, part, put, pad}
-use Rattle.model.specs.Rules.{pick, oneOf, firstOf}
+use Rattle.slices.specs.Parts.{zeros, part, put, pad}
+use Rattle.numbers.specs.Choice.{pick, oneOf}
+use Rattle.model.specs.Rules.{firstOf}
 use Rattle.model.specs.Lent.{ccwAt, flag, fetched, delivered, blockStart, blockCount, blockAt, blocksFrom, blocksInto, recordBytes, recordOf, newRecord}
 use Rattle.model.specs.Parameters.{extentIn, reservedIn, sizeIn, locatedIn, modifiersIn, replicationIn, processed, forbids, address, outside}
 use Rattle.model.specs.Causes.{allChained, callCauses, hostCauses, channelCauses, programCheck, unitCauses, extentCauses, defineExtentCauses, permissionCauses, locationCauses, locateCauses, readIplCauses, transferCauses, ownCauses, causesOf, verdict}

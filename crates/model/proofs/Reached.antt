@@ -18,12 +18,13 @@ use native.Mathlib.Omega.{arith}
 use borrow.Author.Tests.{eqb-true, ne-eqb}
 use Rattle.numbers.specs.Bytes.{AreBytes}
 use Rattle.numbers.specs.Big.{be2}
-use Rattle.moves.specs.Parts.{part, put}
-use Rattle.moves.proofs.Laws.{length-put, get-after, get-part, by-place, part-apart, part-put}
+use Rattle.slices.specs.Parts.{part, put}
+use Rattle.slices.proofs.Laws.{length-put, get-after, get-part, by-place, part-apart, part-put}
 use Rattle.model.specs.declared.ccw.Ccw.{Ccw}
 use Rattle.model.specs.declared.record.Record.{Record}
 use Rattle.model.specs.State.{State, Done}
-use Rattle.model.specs.Rules.{pick, firstOf}
+use Rattle.numbers.specs.Choice.{pick}
+use Rattle.model.specs.Rules.{firstOf}
 use Rattle.model.specs.Lent.{ccwSize, ccwAt, fetched}
 use Rattle.model.specs.Parameters.{locateLength}
 use Rattle.model.specs.Causes.{callCauses, causesOf, verdict}
@@ -32,7 +33,7 @@ use Rattle.model.specs.Answer.{channelStatus, residual, answerSize, answ
 use Rattle.model.specs.Chain.{System, system, stepAt, next, more, run, start, Called, called, callOf}
 use Rattle.model.specs.Exactly.{GivenExactly}
 use Rattle.model.specs.Reached.{found, refusedAnswer, doneAt, Answered, RefusedThere, EachReached, Numbers}
-use Rattle.model.proofs.Picks.{pick-ind}
+use Rattle.numbers.proofs.Choice.{pick-ind}
 use Rattle.model.proofs.Steps.{step-cause, step-refused}
 use Rattle.model.proofs.Endings.{callable, run-reached}
 use Rattle.model.proofs.Lengths.{answer-length, some-block}

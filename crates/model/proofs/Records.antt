@@ -10,8 +10,8 @@ use lib.Seq.{drop-cons, getD-at, getD-append-add}
 use native.Mathlib.Omega.{arith}
 use Rattle.numbers.specs.Bytes.{AreBytes}
 use Rattle.numbers.proofs.Bytes.{bytes-nil, bytes-cons, bytes-append, byte-at}
-use Rattle.moves.specs.Parts.{part}
-use Rattle.moves.proofs.Laws.{length-part, part-between, take-part, bytes-part}
+use Rattle.slices.specs.Parts.{part}
+use Rattle.slices.proofs.Laws.{length-part, part-between, take-part, bytes-part}
 use Rattle.model.specs.declared.record.Record.{Record}
 use Rattle.model.specs.Lent.{recordSize, recordBytes, recordOf}
 use Rattle.model.proofs.Fields.{IsRecord}

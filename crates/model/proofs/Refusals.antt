@@ -15,7 +15,8 @@ use Rattle.model.specs.declared.ccw.Ccw.{Ccw}
 use Rattle.model.specs.declared.record.Record.{Record}
 use Rattle.model.specs.declared.state.Before.the-variants.{Other}
 use Rattle.model.specs.State.{State}
-use Rattle.model.specs.Rules.{pick, firstOf}
+use Rattle.numbers.specs.Choice.{pick}
+use Rattle.model.specs.Rules.{firstOf}
 use Rattle.model.specs.Lent.{ccwSize}
 use Rattle.model.specs.Causes.{callCauses, hostCauses, programCheck, verdict}
 use Rattle.model.specs.Sense.{senseOf}
@@ -23,7 +24,7 @@ use Rattle.model.specs.Log.{withSense}
 use Rattle.model.specs.Commands.{Out, after, refused, refusal, step}
 use Rattle.model.specs.Chain.{called, callOf, start, system, run}
 use Rattle.model.specs.Host.{resultOf, hostCallOf}
-use Rattle.model.proofs.Picks.{pick-ind, pick-true}
+use Rattle.numbers.proofs.Choice.{pick-ind, pick-true}
 use Rattle.model.proofs.Steps.{step-cause, step-refused}
 
 -- the call

@@ -15,7 +15,7 @@ use Rattle.model.specs.declared.extent.Located.{Located}
 use Rattle.model.specs.declared.record.Record.{Record}
 use Rattle.model.specs.declared.state.Before.{Before}
 use Rattle.model.specs.State.{State}
-use Rattle.model.specs.Rules.{_<?_}
+use Rattle.numbers.specs.Choice.{_<?_}
 use Rattle.model.specs.Lent.{blockCount}
 use Rattle.model.specs.Parameters.{extentLength, extentIn, locateLength, locatedIn, processed, address, outside}
 use Rattle.model.specs.Causes.{extentCauses, defineExtentCauses, permissionCauses, locationCauses, locateCauses, transferCauses, a-locate}
@@ -23,7 +23,7 @@ use Rattle.model.specs.Commands.{after, extentSet, locateSet, noOperatio
 use Rattle.model.specs.Safe.{OnDevice, InExtent, Safe}
 use Rattle.model.specs.Chain.{start}
 use Rattle.model.specs.Exactly.{Failed}
-use Rattle.model.proofs.Picks.{pick-ind}
+use Rattle.numbers.proofs.Choice.{pick-ind}
 use Rattle.numbers.proofs.Joined.{both-false, either-false}
 use Rattle.model.proofs.Steps.{Cases, step-cases}
 

@@ -16,13 +16,14 @@ use borrow.Author.Tests.{eqb-true, eqb-false, eq-eqb, ne-eqb, ltb-false, not-fal
 use Rattle.model.specs.declared.ccw.Ccw.{Ccw}
 use Rattle.model.specs.State.{State}
 use Rattle.model.specs.Names.{NO-OPERATION, DEFINE-EXTENT, LOCATE, READ, WRITE, READ-IPL, SENSE, SENSE-TYPE, READ-LOG}
-use Rattle.model.specs.Rules.{_=?_, pick, oneOf, Rule, firstOf}
+use Rattle.numbers.specs.Choice.{_=?_, pick, oneOf}
+use Rattle.model.specs.Rules.{Rule, firstOf}
 use Rattle.model.specs.Lent.{fetched, blockCount}
 use Rattle.model.specs.Parameters.{extentLength, locateLength, reads, writes}
 use Rattle.model.specs.Causes.{channelCauses, commands, unitCauses, extentCauses, defineExtentCauses, permissionCauses, locationCauses, locateCauses, readIplCauses, transferCauses, ownCauses, causesOf, verdict}
 use Rattle.model.specs.Commands.{Out, noOperation, defineExtent, locate, read, write, readIpl, sense, senseType, readLog, accepted, sent, refused, refusal, seen, decided, step}
 use Rattle.model.specs.Exactly.{Failed, absent}
-use Rattle.model.proofs.Picks.{pick-ind, pick-true, pick-false}
+use Rattle.numbers.proofs.Choice.{pick-ind, pick-true, pick-false}
 use Rattle.numbers.proofs.Joined.{both-false}
 use Rattle.model.proofs.Verdicts.{first-append, failed-upto, failed-all}
 

@@ -17,9 +17,10 @@ use mathlib.Core.Bool.{Bool, true, false, not, _&&_}
 use mathlib.Core.List.{List, [], _∷_, _++_, append-nil}
 use borrow.Author.Tests.{eqb-false, ne-eqb, not-true}
 use Rattle.numbers.proofs.Joined.{both-true}
-use Rattle.model.specs.Rules.{_=?_, pick, Rule, firstOf}
+use Rattle.numbers.specs.Choice.{_=?_, pick}
+use Rattle.model.specs.Rules.{Rule, firstOf}
 use Rattle.model.specs.Exactly.{Failed, absent, once, GivenExactly}
-use Rattle.model.proofs.Picks.{pick-both}
+use Rattle.numbers.proofs.Choice.{pick-both}
 
 pub first-here : (r : Rule) (rs : List Rule) → r .holds ≡ true → firstOf (r ∷ rs) ≡ r .cause
 unfolding firstOf pick

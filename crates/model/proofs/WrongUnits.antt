@@ -12,7 +12,7 @@ use mathlib.Core.List.{List, [], _∷_, _++_}
 use lib.Dec.{eqb}
 use lib.ListN.{replicate}
 use borrow.Author.Tests.{eq-eqb, not-true}
-use Rattle.moves.specs.Parts.{put}
+use Rattle.slices.specs.Parts.{put}
 use Rattle.model.specs.Names.{NO-OPERATION, SENSE-TYPE}
 use Rattle.model.specs.Lent.{recordBytes}
 use Rattle.model.specs.Log.{movementCounted}

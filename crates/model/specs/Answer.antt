@@ -8,7 +8,7 @@ use Rattle.numbers.specs.Big.{bytes2}
 use Rattle.model.specs.declared.ccw.Ccw.{Ccw}
 use Rattle.model.specs.State.{Done}
 use Rattle.model.specs.Names.{NO-OPERATION, chain-command, suppress-length, ENDED, UNIT-CHECKED, PROGRAM-CHECK, INCORRECT-LENGTH}
-use Rattle.model.specs.Rules.{_=?_, pick}
+use Rattle.numbers.specs.Choice.{_=?_, pick}
 use Rattle.model.specs.Lent.{flag}
 use Rattle.model.specs.Causes.{programCheck}
 

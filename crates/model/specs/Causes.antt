@@ -20,7 +20,8 @@ use Rattle.model.specs.declared.state.Before.{Before}
 use Rattle.model.specs.declared.state.Before.the-variants.{Nothing, ReadIpl, Locate, Other}
 use Rattle.model.specs.State.{State}
 use Rattle.model.specs.Names.{NO-OPERATION, DEFINE-EXTENT, LOCATE, READ, WRITE, READ-IPL, SENSE, SENSE-TYPE, READ-LOG, chain-command, format, read-replicated}
-use Rattle.model.specs.Rules.{_<?_, _=?_, pick, oneOf, Rule, _when_, firstOf}
+use Rattle.numbers.specs.Choice.{_<?_, _=?_, pick, oneOf}
+use Rattle.model.specs.Rules.{Rule, _when_, firstOf}
 use Rattle.model.specs.Lent.{ccwSize, ccwAt, flag, fetched, blockCount, recordSize}
 use Rattle.model.specs.Parameters.{extentLength, extentIn, reservedIn, sizeIn, locateLength, locatedIn, modifiersIn, replicationIn, processed, operations, reads, writes, forbids, address, outside}
 

@@ -8,11 +8,12 @@ use Prim.Native.Nat.{ℕ, zero, suc, _+_, _*_, _/_}
 use mathlib.Core.Bool.{Bool, false}
 use mathlib.Core.List.{List}
 use lib.ListN.{length}
-use Rattle.moves.specs.Parts.{put}
+use Rattle.slices.specs.Parts.{put}
 use Rattle.model.specs.declared.record.Record.{Record}
 use Rattle.model.specs.declared.state.Before.the-variants.{Nothing}
 use Rattle.model.specs.State.{State}
-use Rattle.model.specs.Rules.{_=?_, pick, firstOf}
+use Rattle.numbers.specs.Choice.{_=?_, pick}
+use Rattle.model.specs.Rules.{firstOf}
 use Rattle.model.specs.Lent.{ccwSize, ccwAt}
 use Rattle.model.specs.Causes.{callCauses}
 use Rattle.model.specs.Commands.{Out, step}

@@ -11,7 +11,8 @@ use mathlib.Core.Path.{_≡_}
 use mathlib.Core.Logic.{_↔_}
 use mathlib.Core.Bool.{Bool, true, false, not, _&&_}
 use mathlib.Core.List.{List, [], _∷_, _++_}
-use Rattle.model.specs.Rules.{_=?_, Rule}
+use Rattle.numbers.specs.Choice.{_=?_}
+use Rattle.model.specs.Rules.{Rule}
 
 abbrev pub Failed : List Rule → Type 0
 Failed [] = Unit {0}

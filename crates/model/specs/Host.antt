@@ -6,7 +6,8 @@
 use Prim.Native.Nat.{ℕ, _+_, _*_}
 use mathlib.Core.List.{List}
 use lib.ListN.{length}
-use Rattle.model.specs.Rules.{_=?_, pick, firstOf}
+use Rattle.numbers.specs.Choice.{_=?_, pick}
+use Rattle.model.specs.Rules.{firstOf}
 use Rattle.model.specs.Lent.{recordSize, recordBytes, recordOf, newRecord}
 use Rattle.model.specs.Causes.{hostCauses}
 use Rattle.model.specs.Chain.{Called, callOf, classA}

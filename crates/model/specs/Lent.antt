@@ -14,7 +14,7 @@ use mathlib.Core.List.{List, [], _∷_, _++_}
 use lib.ListN.{length, getD, drop}
 use Rattle.numbers.specs.Bits.{bit}
 use Rattle.numbers.specs.Big.{be2, be3}
-use Rattle.moves.specs.Parts.{part, put, pad, zeros}
+use Rattle.slices.specs.Parts.{part, put, pad, zeros}
 use Rattle.model.specs.declared.ccw.Ccw.{Ccw}
 use Rattle.model.specs.declared.record.Record.{Record}
 

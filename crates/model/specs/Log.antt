@@ -8,7 +8,7 @@
 use Prim.Native.Nat.{ℕ, _+_, min}
 use mathlib.Core.List.{List, [], _∷_}
 use Rattle.numbers.specs.Big.{be2, be3, bytes2, bytes3}
-use Rattle.moves.specs.Parts.{zeros, put}
+use Rattle.slices.specs.Parts.{zeros, put}
 use Rattle.model.specs.declared.record.Record.{Record}
 use Rattle.model.specs.Names.{environmental-at, format-at, blocks-read-at, blocks-written-at, movements-at}
 

@@ -17,7 +17,7 @@ use Rattle.model.specs.declared.extent.Displacement.{Displacement}
 use Rattle.model.specs.declared.extent.Extent.{Extent}
 use Rattle.model.specs.declared.extent.Located.{Located}
 use Rattle.model.specs.Names.{format, write-data, write-check, read-data, read-replicated}
-use Rattle.model.specs.Rules.{_<?_, _=?_, pick, oneOf}
+use Rattle.numbers.specs.Choice.{_<?_, _=?_, pick, oneOf}
 
 -- DEFINE EXTENT: mask, zero, block size (2), offset (4), first displacement (4), last displacement (4)
 

@@ -11,11 +11,11 @@ use mathlib.Core.Path.{_≡_}
 use mathlib.Core.List.{List, [], _∷_, _++_}
 use lib.ListN.{getD}
 use Rattle.numbers.specs.Big.{be2, bytes2}
-use Rattle.moves.specs.Parts.{part, put}
+use Rattle.slices.specs.Parts.{part, put}
 use Rattle.model.specs.declared.ccw.Ccw.{Ccw}
 use Rattle.model.specs.State.{Done}
 use Rattle.model.specs.Names.{PROGRAM-CHECK}
-use Rattle.model.specs.Rules.{pick}
+use Rattle.numbers.specs.Choice.{pick}
 use Rattle.model.specs.Lent.{ccwAt, fetched}
 use Rattle.model.specs.Parameters.{locateLength}
 use Rattle.model.specs.Causes.{programCheck, causesOf}

@@ -4,9 +4,9 @@
 -- Assumes nothing.
 use Prim.Native.Nat.{ℕ}
 use mathlib.Core.List.{List, [], _∷_}
-use Rattle.moves.specs.Parts.{zeros, put}
+use Rattle.slices.specs.Parts.{zeros, put}
 use Rattle.model.specs.Names.{format-at, parameters-at}
-use Rattle.model.specs.Rules.{_=?_, pick}
+use Rattle.numbers.specs.Choice.{_=?_, pick}
 
 pub record SenseRow : Type 0 where
   pub cause : ℕ

@@ -1,3 +1,4 @@
+pub mod Choice
 pub mod Joined
 pub mod Bytes
 pub mod Big

@@ -1,3 +1,4 @@
+pub mod Choice
 pub mod Bytes
 pub mod Bits
 pub mod Big

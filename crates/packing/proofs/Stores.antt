@@ -10,16 +10,16 @@ use native.Mathlib.Omega.{arith}
 use lib.ListN.{length, getD, take, drop, length-append, drop-of-length-le}
 use lib.Seq.{take-all, take-at, drop-at, drop-cons, drop-drop}
 use borrow.Rule.Slice.PartMut.{putMid}
-use Rattle.moves.specs.Parts.{part, put}
-use Rattle.moves.proofs.Laws.{put-more, put-all}
+use Rattle.slices.specs.Parts.{part, put}
+use Rattle.slices.proofs.Laws.{put-more, put-all}
 use Rattle.model.specs.declared.record.Counts.{Counts}
 use Rattle.model.specs.Log.{withSense, withCounts}
 use Rattle.model.specs.Commands.{after}
 use Rattle.model.specs.Lent.{recordBytes, recordOf}
 use Rattle.log.specs.Counts.{counted}
 use Rattle.log.proofs.Stores.{Arrays}
-use Rattle.running.specs.declared.Left.{Left}
-use Rattle.running.specs.Standing.{senseNow, senseLeft, unitOf, stateOf, stateLeft}
+use Rattle.unit_state.specs.declared.Left.{Left}
+use Rattle.unit_state.specs.Standing.{senseNow, senseLeft, unitOf, stateOf, stateLeft}
 
 -- more bytes are put behind the first n
 put-behind : (n : ℕ) (l bytes more : List ℕ) → length bytes ≡ n → put (put l 0 bytes) n more ≡ put l 0 (bytes ++ more)

@@ -1,15 +1,15 @@
 // How a chain leaves the 34 bytes of its unit record: `pack_left`. Only what can have changed is written.
 use model::record::Counts;
-use moves::clear;
-use moves::copy;
-use moves::put_at;
-use running::Left;
-use sense::sense_of;
+use sense_table::sense_of;
+use slices::clear;
+use slices::copy;
+use slices::put_at;
+use unit_state::Left;
 ghost use mathlib.Core.Path.{_≡_};
 ghost use mathlib.Core.List.{_++_};
 ghost use lib.ListN.{length};
 ghost use Rattle.model.specs.Lent.{recordBytes, recordOf};
-ghost use Rattle.running.specs.Standing.{senseNow, senseLeft, stateLeft};
+ghost use Rattle.unit_state.specs.Standing.{senseNow, senseLeft, stateLeft};
 
 // The sense that is left goes to the 24 bytes of the sense that was found, where it is another.
 fn pack_sense(l: Left, to: &mut [u8])

@@ -10,14 +10,15 @@ use Rattle.model.specs.declared.ccw.Ccw.{Ccw}
 use Rattle.model.specs.declared.state.Before.the-variants.{Other}
 use Rattle.model.specs.State.{State}
 use Rattle.model.specs.Names.{NO-OPERATION, DEFINE-EXTENT, LOCATE, READ, WRITE, READ-IPL, SENSE, SENSE-TYPE, READ-LOG}
-use Rattle.model.specs.Rules.{_=?_, pick, oneOf, firstOf}
+use Rattle.numbers.specs.Choice.{_=?_, pick, oneOf}
+use Rattle.model.specs.Rules.{firstOf}
 use Rattle.model.specs.Lent.{fetched, blockCount}
 use Rattle.model.specs.Parameters.{extentLength, locateLength, reads, writes}
 use Rattle.model.specs.Causes.{commands, channelCauses, unitCauses, defineExtentCauses, locateCauses, readIplCauses, transferCauses, ownCauses}
 use Rattle.model.specs.Commands.{Out, out, after, ended, noOperation, defineExtent, locate, read, write, readIpl, sense, senseType, readLog, accepted, refusal, refused, seen, decided, step}
 use Rattle.model.proofs.Verdicts.{first-here, first-later, first-none}
 use Rattle.model.proofs.Steps.{early-unit, step-early, step-own, own-define, own-locate, own-read, own-write, own-read-ipl, own-none, accepted-no-operation, accepted-define, accepted-locate, accepted-read, accepted-write, accepted-read-ipl, accepted-sense, accepted-sense-type, accepted-read-log}
-use Rattle.outcomes.specs.Cleared.{cleared}
+use Rattle.endings.specs.Cleared.{cleared}
 
 -- a command with no table of its own is accepted
 none-decided : (c : Ccw) (s : State) (main store : List ℕ) (o : Out) → decided c s main store (firstOf []) o ≡ o

@@ -8,7 +8,8 @@ use Prim.Native.Nat.{ℕ}
 use Rattle.model.specs.declared.ccw.Ccw.{Ccw}
 use Rattle.model.specs.declared.record.Record.{Record}
 use Rattle.model.specs.Names.{SENSE, SENSE-TYPE}
-use Rattle.model.specs.Rules.{_=?_, oneOf, firstOf}
+use Rattle.numbers.specs.Choice.{_=?_, oneOf}
+use Rattle.model.specs.Rules.{firstOf}
 use Rattle.model.specs.Causes.{channelCauses}
 
 pub record Admitted (c : Ccw) (u : Record) (main : List ℕ) : Type 0 where

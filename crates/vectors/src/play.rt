@@ -4,9 +4,9 @@ ghost use Prim.Native.Nat.{_≤_, _<_};
 use crate::show;
 use crate::words;
 use crate::words::Vector;
+use in_place::Ran;
 use layout::same_count;
 use layout::same_sense;
-use lent::Ran;
 use model::record::Record;
 
 // The settings of a vector, each a bit; two bits more say which store (`store_bytes`).
@@ -130,7 +130,7 @@ fn run(
     let m = least(v.storage, storage.len());
     let s = least(store_bytes(v.setting), store.len());
     let a = least(v.answers, answers.len());
-    lent::run_core(
+    in_place::run_core(
         unit,
         &chain[0..c],
         &mut storage[0..m],

@@ -1,6 +1,6 @@
 // The printed line of a vector. Hexadecimal is upper case.
 ghost use Prim.Native.Nat.{_<_};
-use lent::Ran;
+use in_place::Ran;
 use libc::STDOUT_FILENO;
 use model::record::Record;
 

@@ -1,8 +1,8 @@
 -- `define_by` meets its contract. Assumes nothing.
 use mathlib.Core.Path.{ap, _∙_}
 use borrow.Author.Needs.{needs}
-use Rattle.running.specs.Standing.{stateOf}
-use Rattle.outcomes.specs.Report.{report}
+use Rattle.unit_state.specs.Standing.{stateOf}
+use Rattle.endings.specs.Report.{report}
 use Rattle.controls.proofs.Deciding.{defined-cause, define-refused, define-taken, define-ended}
 use Rattle.controls.proofs.define_by.Statement.{statement}
 use Rattle.controls.proofs.define_by.Tie as tie

@@ -1,6 +1,6 @@
 -- `eight` meets its contract. Assumes nothing.
 use mathlib.Core.Path.{refl, _∙_}
-use Rattle.moves.proofs.Laws.{put-copy}
+use Rattle.slices.proofs.Laws.{put-copy}
 use borrow.Author.Needs.{needs}
 use Rattle.controls.proofs.eight.Statement.{statement}
 use Rattle.controls.proofs.eight.Tie as tie

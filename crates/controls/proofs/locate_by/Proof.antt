@@ -4,8 +4,8 @@ use Prim.Native.Nat.{ℕ}
 use mathlib.Core.List.{List}
 use borrow.Author.Needs.{needs}
 use Rattle.model.specs.Commands.{refusal}
-use Rattle.running.specs.Standing.{stateOf}
-use Rattle.outcomes.specs.Report.{report}
+use Rattle.unit_state.specs.Standing.{stateOf}
+use Rattle.endings.specs.Report.{report}
 use Rattle.controls.proofs.Deciding.{location-cause, locate-refused, locate-found, locate-ended}
 use Rattle.controls.proofs.locate_by.Statement.{statement}
 use Rattle.controls.proofs.locate_by.Tie as tie

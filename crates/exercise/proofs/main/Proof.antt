@@ -1,21 +1,10 @@
--- `exercise::main` is safe and ends: what `text::exercise` returns is no more than the output holds. Assumes what io and libc do.
+-- `exercise::main` is safe and ends: what `text_exercise::exercise` returns is no more than the output holds. Assumes what io and libc do.
 use native.Mathlib.Omega.{arith}
 use mathlib.Core.Path.{sym}
 use lib.Seq.{length-take-le}
-use Rattle.digits.proofs.Outputs.{added-within}
 use borrow.Author.Needs.{needs}
 use Rattle.exercise.proofs.main.Statement.{statement}
 use Rattle.exercise.proofs.main.Tie as tie
-
-array-share-prefix-output : tie.Need-array-share-prefix-output
-array-share-prefix-output c =
-    let within = added-within _ _ _ _ _ (c .before .exercise .ensures) (omega arith) in
-    omega (arith, within, c .before .exercise .kept .1 .0)
-
-slice-aggregate-write-all : tie.Need-slice-aggregate-write-all
-slice-aggregate-write-all c =
-    let within = added-within _ _ _ _ _ (c .before .before .exercise .ensures) (omega arith) in
-    sym (length-take-le _ _ (omega (arith, within, c .before .before .exercise .kept .1 .0)))
 
 pub main-spec : {M : Type 1} → statement M
 main-spec =
@@ -29,7 +18,7 @@ main-spec =
     (search needs)  -- slice-aggregate-exercise
     (search needs)  -- slice-aggregate-exercise-2
     (search needs)  -- exercise-requires
-    array-share-prefix-output
-    slice-aggregate-write-all
+    (search needs)  -- array-share-prefix-output
+    (λ c. sym (length-take-le _ _ (omega arith)))  -- slice-aggregate-write-all
     (search needs)  -- write-all-requires
     (search needs))  -- returns

@@ -1,7 +1,7 @@
 -- `new_record` meets its contract: the definition makes the same record.
 -- Assumes nothing.
 use mathlib.Core.Path.{refl}
-use Rattle.moves.specs.Parts.{zeros}
+use Rattle.slices.specs.Parts.{zeros}
 use Rattle.model.specs.Lent.{newRecord}
 use Rattle.layout.proofs.new_record.Statement.{statement}
 use Rattle.layout.proofs.new_record.Tie as tie

@@ -4,8 +4,8 @@ use borrow.Author.Needs.{needs}
 use Prim.Native.Nat.{_+_}
 use mathlib.Core.Path.{_≡_}
 use native.Mathlib.Omega.{arith}
-use Rattle.moves.proofs.Laws.{part-cons}
-use Rattle.moves.specs.Parts.{part}
+use Rattle.slices.proofs.Laws.{part-cons}
+use Rattle.slices.specs.Parts.{part}
 use Rattle.layout.proofs.three.Statement.{statement}
 use Rattle.layout.proofs.three.Tie as tie
 

@@ -3,8 +3,8 @@
 use borrow.Author.Needs.{needs}
 use Prim.Native.Nat.{_+_}
 use native.Mathlib.Omega.{arith}
-use Rattle.moves.specs.Parts.{part}
-use Rattle.moves.proofs.Laws.{part-cons}
+use Rattle.slices.specs.Parts.{part}
+use Rattle.slices.proofs.Laws.{part-cons}
 use Rattle.layout.proofs.two.Statement.{statement}
 use Rattle.layout.proofs.two.Tie as tie
 

@@ -5,8 +5,8 @@ use mathlib.Core.Path.{_≡_, _∙_}
 use native.Mathlib.Omega.{arith}
 use lib.Seq.{length-take-le}
 use lib.ListN.{take}
-use Rattle.moves.proofs.Laws.{put-all}
-use Rattle.moves.specs.Parts.{part}
+use Rattle.slices.proofs.Laws.{put-all}
+use Rattle.slices.specs.Parts.{part}
 use Rattle.model.specs.Lent.{recordOf}
 use Rattle.layout.proofs.unpack.Statement.{statement}
 use Rattle.layout.proofs.unpack.Tie as tie

@@ -1,6 +1,6 @@
 -- `none_counted` meets its contract: three counts of zeros. Assumes nothing.
 use mathlib.Core.Path.{refl}
-use Rattle.moves.specs.Parts.{zeros}
+use Rattle.slices.specs.Parts.{zeros}
 use Rattle.model.specs.Log.{withCounts, logReset}
 use Rattle.log.specs.Counts.{counted}
 use Rattle.log.proofs.none_counted.Statement.{statement}

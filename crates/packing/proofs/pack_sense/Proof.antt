@@ -2,9 +2,9 @@
 use mathlib.Core.Path.{refl, _∙_}
 use borrow.Author.Needs.{needs}
 use borrow.Author.Tests.{lt-ltb, le-ltb, not-true, not-false}
-use Rattle.moves.proofs.Laws.{put-copy}
-use Rattle.model.specs.Rules.{pick}
-use Rattle.running.specs.Standing.{senseNow, senseLeft}
+use Rattle.slices.proofs.Laws.{put-copy}
+use Rattle.numbers.specs.Choice.{pick}
+use Rattle.unit_state.specs.Standing.{senseNow, senseLeft}
 use Rattle.packing.proofs.pack_sense.Statement.{statement}
 use Rattle.packing.proofs.pack_sense.Tie as tie
 

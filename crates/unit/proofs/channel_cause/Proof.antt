@@ -1,7 +1,7 @@
 -- `channel_cause` meets its contract. Each test is one line of `channelCauses`, in its order. Assumes nothing.
 use mathlib.Core.Path.{refl, sym, _∙_}
 use borrow.Author.Tests.{eq-eqb, ne-eqb}
-use Rattle.model.specs.Rules.{oneOf}
+use Rattle.numbers.specs.Choice.{oneOf}
 use Rattle.model.specs.Causes.{channelCauses, programCheck}
 use Rattle.model.proofs.Verdicts.{first-here, first-later, first-none}
 use borrow.Author.Needs.{needs}

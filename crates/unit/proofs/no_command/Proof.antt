@@ -5,7 +5,7 @@ use mathlib.Core.List.{[], _∷_}
 use lib.Bits.{bitAnd}
 use lib.Dec.{eqb}
 use Rattle.numbers.proofs.Bits.{same-on-bytes}
-use Rattle.model.specs.Rules.{oneOf}
+use Rattle.numbers.specs.Choice.{oneOf}
 use borrow.Author.Needs.{needs}
 use Rattle.unit.proofs.no_command.Statement.{statement}
 use Rattle.unit.proofs.no_command.Tie as tie

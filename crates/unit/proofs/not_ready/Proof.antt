@@ -1,7 +1,7 @@
 -- `not_ready` meets its contract. Assumes nothing.
 use borrow.Author.Tests.{eq-eqb, ne-eqb}
 use mathlib.Core.Bool.{or-false}
-use Rattle.model.specs.Rules.{oneOf}
+use Rattle.numbers.specs.Choice.{oneOf}
 use Rattle.unit.proofs.not_ready.Statement.{statement}
 use Rattle.unit.proofs.not_ready.Tie as tie
 

@@ -6,15 +6,15 @@ use native.Mathlib.Omega.{arith}
 use borrow.Author.Needs.{needs}
 use borrow.Author.Tests.{ne-eqb}
 use mathlib.Core.Bool.{false}
-use Rattle.model.specs.Rules.{oneOf}
+use Rattle.numbers.specs.Choice.{oneOf}
 use Rattle.model.specs.Causes.{commands}
 use Rattle.model.specs.Lent.{blockCount}
 use Rattle.model.specs.Log.{withSense, withCounts}
 use Rattle.model.proofs.Steps.{channel-room}
 use Rattle.log.specs.Counts.{counted}
-use Rattle.running.specs.Standing.{unitOf, stateOf}
-use Rattle.outcomes.specs.Report.{outcomeOf}
-use Rattle.outcomes.proofs.Deciding.{done-outcome}
+use Rattle.unit_state.specs.Standing.{unitOf, stateOf}
+use Rattle.endings.specs.Report.{outcomeOf}
+use Rattle.endings.proofs.Deciding.{done-outcome}
 use Rattle.unit.proofs.Performing.{step-define, step-locate, step-read, step-write, step-ipl, step-sense, step-type, step-log, step-unlisted}
 use Rattle.unit.proofs.perform.Statement.{statement}
 use Rattle.unit.proofs.perform.Tie as tie

@@ -8,9 +8,9 @@ use Rattle.model.specs.Commands.{ended}
 use Rattle.model.proofs.Verdicts.{first-here}
 use Rattle.model.proofs.Steps.{early-channel, early-unit}
 use Rattle.log.specs.Counts.{counted}
-use Rattle.running.specs.Standing.{unitOf, stateOf}
-use Rattle.outcomes.specs.Report.{outcomeOf}
-use Rattle.outcomes.proofs.Deciding.{done-outcome}
+use Rattle.unit_state.specs.Standing.{unitOf, stateOf}
+use Rattle.endings.specs.Report.{outcomeOf}
+use Rattle.endings.proofs.Deciding.{done-outcome}
 use Rattle.unit.proofs.Performing.{step-stopped, step-no-operation, passed-out}
 use Rattle.unit.proofs.step.Statement.{statement}
 use Rattle.unit.proofs.step.Tie as tie

@@ -9,7 +9,7 @@ use Rattle.model.specs.Chain.{system, run}
 use Rattle.model.proofs.Refusals.{call-ran}
 use Rattle.model.proofs.Endings.{callable}
 use Rattle.model.proofs.Safety.{safe-start}
-use Rattle.running.proofs.Units.{safe-secure}
+use Rattle.unit_state.proofs.Units.{safe-secure}
 use Rattle.chain.proofs.Runs.{callable-runnable, called-run}
 use Rattle.chain.proofs.call.run_allowed.Statement.{statement}
 use Rattle.chain.proofs.call.run_allowed.Tie as tie

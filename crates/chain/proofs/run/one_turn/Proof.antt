@@ -5,8 +5,8 @@ use borrow.Author.Needs.{needs}
 use borrow.Author.Tests.{eqb-true}
 use Rattle.model.specs.Lent.{flag}
 use Rattle.numbers.proofs.Joined.{both-true}
-use Rattle.running.specs.Standing.{stateOf}
-use Rattle.outcomes.proofs.Reports.{ended-left}
+use Rattle.unit_state.specs.Standing.{stateOf}
+use Rattle.endings.proofs.Reports.{ended-left}
 use Rattle.chain.proofs.Runs.{turned, turned-go, presented, goes-on, stops}
 use Rattle.chain.proofs.run.one_turn.Statement.{statement}
 use Rattle.chain.proofs.run.one_turn.Tie as tie

@@ -5,7 +5,7 @@ use mathlib.Core.List.{List}
 use lib.ListN.{take, set}
 use native.Mathlib.Omega.{arith}
 use borrow.Author.Needs.{needs}
-use Rattle.moves.specs.Parts.{put}
+use Rattle.slices.specs.Parts.{put}
 use Rattle.model.specs.Names.{INCORRECT-LENGTH}
 use Rattle.chain.proofs.Runs.{present-refused, present-wrong, present-ended}
 use Rattle.chain.proofs.run.present.Statement.{statement}

@@ -6,9 +6,9 @@ use native.Mathlib.Omega.{arith}
 use borrow.Author.Tests.{not-true, not-false}
 use Rattle.model.specs.State.{State}
 use Rattle.model.specs.Chain.{system}
-use Rattle.running.specs.Standing.{stateOf}
-use Rattle.running.proofs.Units.{safe-secure}
-use Rattle.outcomes.proofs.Reports.{ended-left}
+use Rattle.unit_state.specs.Standing.{stateOf}
+use Rattle.unit_state.proofs.Units.{safe-secure}
+use Rattle.endings.proofs.Reports.{ended-left}
 use Rattle.chain.proofs.Runs.{Underway, underway-start, underway-next, underway-stop, underway-done, runnable-same}
 use Rattle.chain.proofs.run.run_chain.Statement.{statement}
 use Rattle.chain.proofs.run.run_chain.Tie as tie

@@ -1,0 +1,118 @@
+// The sixteen bytes of a DEFINE EXTENT: taken apart, and taken or refused.
+// `define_parameters` is the way in; a refusal is a case of its answer, with 01's number.
+use model::extent::Displacement;
+use model::extent::Extent;
+use model::extent::Offset;
+ghost use mathlib.Core.Path.{_≡_};
+ghost use mathlib.Core.Bool.{not, _&&_, _||_};
+ghost use mathlib.Core.List.{[], _∷_};
+ghost use Prim.Native.Nat.{_≤_};
+ghost use lib.Dec.{eqb, ltb};
+ghost use lib.ListN.{length};
+ghost use Rattle.numbers.specs.Bits.{bit, anyBit};
+ghost use Rattle.numbers.specs.Choice.{oneOf};
+ghost use Rattle.model.specs.Rules.{firstOf};
+ghost use Rattle.model.specs.Parameters.{extentIn, address};
+ghost use Rattle.model.specs.Causes.{extentCauses};
+ghost use Rattle.command_extent.specs.Answers.{definedNumber};
+
+pub enum Defined {
+    Taken,
+    BadMask,
+    Maintenance,
+    BadSize,
+    FirstAfterLast,
+    PastDevice,
+}
+
+impl Defined {
+    pub fn number(self) -> u8
+        ensures { λ r. ⌜ r ≡ definedNumber self ⌝ }
+    {
+        match self {
+            Defined::Taken => 0,
+            Defined::BadMask => 22,
+            Defined::Maintenance => 23,
+            Defined::BadSize => 24,
+            Defined::FirstAfterLast => 25,
+            Defined::PastDevice => 26,
+        }
+    }
+}
+
+// Mask bits 0-1 are 10, or one of bits 2, 3, 6, 7 is one, or byte 1 is not zero.
+fn mask_wrong(mask: u8, reserved: u8) -> bool
+    ensures { λ r. ⌜ r ≡ ((bit mask 0 && not (bit mask 1)) || anyBit mask (2 ∷ 3 ∷ 6 ∷ 7 ∷ []) || not (eqb reserved 0)) ⌝ }
+{
+    let kind = mask >> 6;
+    if kind == 2 {
+        return true;
+    }
+    let others = mask & 0x33;
+    if others != 0 {
+        return true;
+    }
+    reserved != 0
+}
+
+fn maintenance(mask: u8) -> bool
+    ensures { λ r. ⌜ r ≡ bit mask 4 ⌝ }
+{
+    mask & 0x08 != 0
+}
+
+// Neither zero, which stands for the device's own, nor the device's own.
+fn size_wrong(field: usize, size: usize) -> bool
+    ensures { λ r. ⌜ r ≡ not (oneOf (0 ∷ size ∷ []) field) ⌝ }
+{
+    if field == 0 {
+        return false;
+    }
+    field != size
+}
+
+pub fn extent_in(p: &[u8]) -> Extent
+    requires { ⌜ length (now p) ≡ 16 ⌝ }
+    ensures { λ r. ⌜ r ≡ extentIn (now (p .entry)) ⌝ }
+{
+    Extent {
+        mask: p[0] as u32,
+        offset: Offset(numbers::be4(p, 4)),
+        first: Displacement(numbers::be4(p, 8)),
+        last: Displacement(numbers::be4(p, 12)),
+    }
+}
+
+// The last block of the extent is not one of the device's.
+fn past_device(e: Extent, blocks: usize) -> bool
+    requires { ⌜ e .first .0 ≤ e .last .0 ⌝ }
+    ensures { λ r. ⌜ r ≡ not (ltb (address e (e .last)) blocks) ⌝ }
+{
+    let last = e.last;
+    let end = e.address(last);
+    blocks as u64 <= end
+}
+
+// The sixteen bytes, on a device of so many blocks of this size.
+pub fn define_parameters(size: usize, blocks: usize, p: &[u8]) -> Defined
+    requires { ⌜ length (now p) ≡ 16 ⌝ }
+    ensures { λ r. ⌜ definedNumber r ≡ firstOf (extentCauses size blocks (now (p .entry))) ⌝ }
+{
+    let e = extent_in(p);
+    if mask_wrong(p[0], p[1]) {
+        return Defined::BadMask;
+    }
+    if maintenance(p[0]) {
+        return Defined::Maintenance;
+    }
+    if size_wrong(numbers::be2(p, 2), size) {
+        return Defined::BadSize;
+    }
+    if e.last.0 < e.first.0 {
+        return Defined::FirstAfterLast;
+    }
+    if past_device(e, blocks) {
+        return Defined::PastDevice;
+    }
+    Defined::Taken
+}

@@ -1,0 +1,65 @@
+-- What the code tests, and the rule's own words for it. No contract cites this file.
+use Prim.Native.Nat.{ℕ, _/_, _^_, _≤_, _<_}
+use mathlib.Core.Path.{_≡_, refl, sym, subst}
+use mathlib.Core.Bool.{Bool, true, false, not, _&&_, _||_}
+use mathlib.Core.List.{List, [], _∷_}
+use lib.Bits.{bitAnd}
+use lib.Dec.{T, ltb, leb, eqb, lit≤}
+use lib.ListN.{getD, List·getD-eq-default}
+use native.Mathlib.Omega.{arith}
+use borrow.Author.Tests.{ltb-true, eq-eqb, ne-eqb}
+use Rattle.numbers.specs.Bits.{bit, anyBit}
+use Rattle.numbers.proofs.Tables.{values, same-upto}
+use Rattle.numbers.proofs.Bits.{same-on-bytes}
+use Rattle.numbers.specs.Choice.{oneOf}
+use Rattle.model.specs.Parameters.{operations, writes, forbidden}
+use Rattle.model.proofs.Steps.{one-of, none-of}
+
+-- eight bytes reach as far
+pub eight : {k n : ℕ} → n ≡ 8 → T (leb k 8) → k ≤ n
+eight {k} e t = subst (λ (m : ℕ). k ≤ m) (sym e) (lit≤ t)
+
+-- one of modifier bits 0 to 2
+pub modifier-reserved : (b : ℕ) → b < 256 → anyBit b (0 ∷ 1 ∷ 2 ∷ []) ≡ not (eqb (bitAnd b 0xE0) 0)
+unfolding bit anyBit
+modifier-reserved b h = same-on-bytes (λ (m : ℕ). anyBit m (0 ∷ 1 ∷ 2 ∷ [])) (λ (m : ℕ). not (eqb (bitAnd m 0xE0) 0)) refl b h
+
+-- the code of an operation is below 7
+pub operation-low : (o : ℕ) → oneOf operations o ≡ true → o < 7
+operation-low o e =
+    one-of (o < 7) _ _ o e (λ x. omega arith) (λ e.
+    one-of (o < 7) _ _ o e (λ x. omega arith) (λ e.
+    one-of (o < 7) _ _ o e (λ x. omega arith) (λ e.
+    one-of (o < 7) _ _ o e (λ x. omega arith) (λ e.
+    one-of (o < 7) _ _ o e (λ x. omega arith) (λ e. absurd (none-of o e))))))
+
+-- cause 34, its last test
+pub count-last : (o n : ℕ) → (n ≡ 0 → ⊥) → o ≡ 4 → not (eqb n 1) ≡ (eqb n 0 || (eqb o 4 && not (eqb n 1)))
+count-last o n h e = rw (ne-eqb n 0 h, eq-eqb o 4 e)
+
+-- cause 38, its last test
+pub inhibited-last : (r o : ℕ) → (r ≡ 0 → ⊥) → (o ≡ 1 → ⊥) → (o ≡ 5 → ⊥) → eqb o 4 ≡ (not (eqb r 0) && (writes o || eqb o 4))
+unfolding oneOf
+inhibited-last r o h a b = rw (ne-eqb r 0 h, ne-eqb o 1 a, ne-eqb o 5 b)
+
+-- the code's table of what is forbidden: a byte by mask bits 0-1, in it a bit by operation
+abbrev table : List ℕ
+table = 0x10 ∷ 0x32 ∷ 0x76 ∷ 0x00 ∷ []
+
+abbrev marked : ℕ → ℕ → Bool
+marked k o = not (eqb (bitAnd (getD table k 0 / 2 ^ o) 1) 0)
+
+abbrev listed : ℕ → ℕ → Bool
+listed k o = oneOf (getD forbidden k []) o
+
+pub table-bytes : (k : ℕ) → k < 4 → getD table k 0 < 256
+table-bytes k h = ltb-true _ _ (same-upto (λ (k : ℕ). ltb (getD table k 0) 256) (λ (k : ℕ). true) 4 refl k h)
+
+pub forbidden-at : (k o : ℕ) → k < 4 → o < 7 → marked k o ≡ listed k o
+unfolding oneOf
+forbidden-at k o h g = same-upto (marked k) (listed k) 7 (same-upto (λ (k : ℕ). values (marked k) 0 7) (λ (k : ℕ). values (listed k) 0 7) 4 refl k h) o g
+
+-- past it nothing is
+pub forbidden-past : (k o : ℕ) → 4 ≤ k → listed k o ≡ false
+unfolding oneOf
+forbidden-past k o h = rw (List·getD-eq-default forbidden [] h)

@@ -1,0 +1,209 @@
+// The eight bytes of a LOCATE: taken apart, and taken or refused.
+// `locate_parameters` is the way in; a refusal is a case of its answer, with 01's number.
+use model::extent::Displacement;
+use model::extent::Extent;
+use model::extent::Located;
+use model::record::Record;
+use unit_state::Running;
+ghost use mathlib.Core.Path.{_≡_};
+ghost use mathlib.Core.Bool.{not, _&&_, _||_};
+ghost use mathlib.Core.List.{[], _∷_};
+ghost use Prim.Native.Nat.{_%_, _<_};
+ghost use lib.Dec.{eqb, ltb};
+ghost use lib.ListN.{length};
+ghost use Rattle.numbers.specs.Bits.{anyBit};
+ghost use Rattle.numbers.specs.Choice.{pick, oneOf};
+ghost use Rattle.model.specs.Rules.{firstOf};
+ghost use Rattle.model.specs.Parameters.{locatedIn, operations, writes, forbids, outside};
+ghost use Rattle.model.specs.Causes.{locationCauses, permissionCauses};
+ghost use Rattle.unit_state.specs.Standing.{stateOf};
+ghost use Rattle.command_locate.specs.Answers.{locationNumber};
+
+pub enum Location {
+    Found,
+    BadModifier,
+    BadOperation,
+    BadCount,
+    BadReplication,
+    OutsideExtent,
+    Forbidden,
+    ReadOnly,
+    NoAlternate,
+}
+
+impl Location {
+    pub fn number(self) -> u8
+        ensures { λ r. ⌜ r ≡ locationNumber self ⌝ }
+    {
+        match self {
+            Location::Found => 0,
+            Location::BadModifier => 32,
+            Location::BadOperation => 33,
+            Location::BadCount => 34,
+            Location::BadReplication => 35,
+            Location::OutsideExtent => 36,
+            Location::Forbidden => 37,
+            Location::ReadOnly => 38,
+            Location::NoAlternate => 39,
+        }
+    }
+}
+
+// One of modifier bits 0 to 2 is one. Bit 3 is not used.
+fn modifier_wrong(byte: u8) -> bool
+    ensures { λ r. ⌜ r ≡ anyBit byte (0 ∷ 1 ∷ 2 ∷ []) ⌝ }
+{
+    byte & 0xE0 != 0
+}
+
+pub fn located_in(p: &[u8]) -> Located
+    requires { ⌜ length (now p) ≡ 8 ⌝ }
+    ensures { λ r. ⌜ (r ≡ locatedIn (now (p .entry))) × (r .operation < 16) × (r .blocks < 65536) ⌝ }
+{
+    Located {
+        operation: (p[0] & 0x0F) as u32,
+        displacement: Displacement(numbers::be4(p, 4)),
+        blocks: numbers::be2(p, 2),
+    }
+}
+
+// 1 write, 2 read replicated, 4 format, 5 write and check, 6 read.
+fn is_operation(operation: u32) -> bool
+    ensures { λ r. ⌜ r ≡ oneOf operations operation ⌝ }
+{
+    match operation {
+        1 => true,
+        2 => true,
+        4 => true,
+        5 => true,
+        6 => true,
+        _ => false,
+    }
+}
+
+// No block, or a format of other than one.
+fn count_wrong(l: Located) -> bool
+    ensures { λ r. ⌜ r ≡ (eqb (l .blocks) 0 || (eqb (l .operation) 4 && not (eqb (l .blocks) 1))) ⌝ }
+{
+    if l.blocks == 0 {
+        return true;
+    }
+    if l.operation != 4 {
+        return false;
+    }
+    l.blocks != 1
+}
+
+// A replicated read whose range is not made of whole units.
+fn replication_wrong(l: Located, replication: usize) -> bool
+    requires { ⌜ (l .blocks ≡ 0 → ⊥) ⌝ }
+    ensures { λ r. ⌜ r ≡ (eqb (l .operation) 2 && (ltb replication (l .blocks) || not (eqb (replication % l .blocks) 0))) ⌝ }
+{
+    if l.operation != 2 {
+        return false;
+    }
+    let unit = l.blocks;
+    if replication < unit {
+        return true;
+    }
+    replication % unit != 0
+}
+
+// As many blocks as the LOCATE has to hold against the extent.
+fn blocks_processed(l: Located, replication: usize) -> usize
+    ensures { λ r. ⌜ r ≡ pick (eqb (l .operation) 2) replication (l .blocks) ⌝ }
+{
+    if l.operation == 2 {
+        replication
+    } else {
+        l.blocks
+    }
+}
+
+fn outside_extent(e: Extent, d: Displacement, n: usize) -> bool
+    requires { ⌜ n < 65536 ⌝ }
+    ensures { λ r. ⌜ r ≡ outside e d n ⌝ }
+{
+    if d.0 < e.first.0 {
+        return true;
+    }
+    let end = (d.0 as u64) + (n as u64);
+    let past = (e.last.0 as u64) + 1;
+    past < end
+}
+
+// By mask bits 0-1, the operations that are forbidden, each a bit: 2 write, 4 read replicated, 10 format, 20 write and check, 40 read.
+const FORBIDDEN: [u8; 4] = [0x10, 0x32, 0x76, 0x00];
+
+// A mask of more than a byte stands for no line of the table: nothing is forbidden.
+fn mask_forbids(mask: u32, operation: u32) -> bool
+    requires { ⌜ operation < 7 ⌝ }
+    ensures { λ r. ⌜ r ≡ forbids mask operation ⌝ }
+{
+    let kind = (mask >> 6) as usize;
+    if 4 <= kind {
+        return false;
+    }
+    let bits = FORBIDDEN[kind] as u32;
+    (bits >> operation) & 1 != 0
+}
+
+// The unit is read-only, and the operation writes or formats.
+fn write_inhibited(read_only: u8, operation: u32) -> bool
+    ensures { λ r. ⌜ r ≡ (not (eqb «read_only» 0) && (writes operation || eqb operation 4)) ⌝ }
+{
+    if read_only == 0 {
+        return false;
+    }
+    if operation == 1 {
+        return true;
+    }
+    if operation == 5 {
+        return true;
+    }
+    operation == 4
+}
+
+// What is asked for is within the extent, and the mask, the switch and the alternates allow it.
+fn permit(u: Record, s: Running, l: Located, n: usize) -> Location
+    requires { ⌜ (l .operation < 7) × (n < 65536) ⌝ }
+    ensures { λ r. ⌜ locationNumber r ≡ firstOf (permissionCauses (stateOf u s) l n) ⌝ }
+{
+    let e = s.extent;
+    if outside_extent(e, l.displacement, n) {
+        return Location::OutsideExtent;
+    }
+    if mask_forbids(e.mask, l.operation) {
+        return Location::Forbidden;
+    }
+    if write_inhibited(u.read_only, l.operation) {
+        return Location::ReadOnly;
+    }
+    if l.operation == 4 {
+        return Location::NoAlternate;
+    }
+    Location::Found
+}
+
+// The eight bytes, under the extent and on the unit of this state.
+pub fn locate_parameters(u: Record, s: Running, p: &[u8]) -> Location
+    requires { ⌜ length (now p) ≡ 8 ⌝ }
+    ensures { λ r. ⌜ locationNumber r ≡ firstOf (locationCauses (stateOf u s) (now (p .entry))) ⌝ }
+{
+    let l = located_in(p);
+    let replication = numbers::wide(p[1]);
+    if modifier_wrong(p[0]) {
+        return Location::BadModifier;
+    }
+    if !is_operation(l.operation) {
+        return Location::BadOperation;
+    }
+    if count_wrong(l) {
+        return Location::BadCount;
+    }
+    if replication_wrong(l, replication) {
+        return Location::BadReplication;
+    }
+    let n = blocks_processed(l, replication);
+    permit(u, s, l, n)
+}

@@ -1,5 +1,0 @@
-pub mod Lines
-pub mod Values
-pub mod Rights
-pub mod Cuts
-pub mod Sizes

@@ -1,2 +1,0 @@
-pub mod Format
-pub mod Lengths

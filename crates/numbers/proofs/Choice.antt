@@ -1,0 +1,23 @@
+-- Laws of `pick`: a property of both is one of the one that is picked. No contract cites this file.
+use mathlib.Core.Path.{_≡_, refl}
+use mathlib.Core.Bool.{Bool, true, false}
+use Rattle.numbers.specs.Choice.{pick}
+
+pub pick-ind {ℓ} : {A : Type 0} (P : A → Type ℓ) (b : Bool) (x y : A) → (b ≡ true → P x) → (b ≡ false → P y) → P (pick b x y)
+unfolding pick
+pick-ind P true x y f g = f refl
+pick-ind P false x y f g = g refl
+
+pub pick-true : {A : Type 0} (b : Bool) (x y : A) → b ≡ true → pick b x y ≡ x
+unfolding pick
+pick-true b x y e = rw e
+
+pub pick-false : {A : Type 0} (b : Bool) (x y : A) → b ≡ false → pick b x y ≡ y
+unfolding pick
+pick-false b x y e = rw e
+
+-- two that are picked by one test
+pub pick-both : {A : Type 0} (P : A → A → Type 0) (b : Bool) (x y z w : A) → (b ≡ true → P x z) → (b ≡ false → P y w) → P (pick b x y) (pick b z w)
+unfolding pick
+pick-both P true x y z w f g = f refl
+pick-both P false x y z w f g = g refl

@@ -1,0 +1,56 @@
+-- What a run gave is what is printed. No contract cites this file.
+use Prim.Native.Nat.{ℕ, _*_, _/_, _%_, _≤_, _<_}
+use native.Mathlib.Nat.{zero-add}
+use native.Mathlib.Omega.{arith}
+use mathlib.Core.Path.{_≡_, refl, sym, ap}
+use mathlib.Core.List.{List}
+use lib.ListN.{length, take}
+use lib.Seq.{take-at}
+use Rattle.model.specs.declared.record.Record.{Record}
+use Rattle.model.specs.Chain.{Called, call, classA}
+use Rattle.model.specs.Answer.{answerSize}
+use Rattle.model.specs.Host.{resultOf}
+use Rattle.model.proofs.Endings.{call-reached}
+use Rattle.model.proofs.Hosts.{result-reads}
+use Rattle.slices.specs.Parts.{put, zeros}
+use Rattle.model.specs.Lent.{newRecord}
+use Rattle.text_input.specs.declared.Settings.{Settings}
+use Rattle.text_input.specs.Reads.{ReadTo}
+use Rattle.text_exercise.specs.Exercise.{device, performed}
+use Rattle.in_place.specs.declared.Ran.{Ran}
+use Rattle.in_place.specs.Run.{Outcome, outcome, After}
+use Rattle.in_place.proofs.Reached.{reached-few}
+use Rattle.text_output.specs.Printout.{printoutOf, printout}
+
+module _ {u : Record} {chain main store answers : List ℕ} {w : Ran} {main′ store′ answers′ : List ℕ} (a : After u chain main store answers w main′ store′ answers′) where
+  code-is : w .code ≡ resultOf (call chain main store u answers .cause) (call chain main store u answers .reached)
+  unfolding outcome
+  code-is = ap (λ (o : Outcome). o .code) (a .is)
+
+  few : call chain main store u answers .reached < 256
+  few = omega (arith, reached-few chain main store u answers (call chain main store u answers) refl)
+
+  cause-is : w .code / 256 ≡ call chain main store u answers .cause
+  cause-is = rw code-is (result-reads _ _ few .0)
+
+  reached-is : w .code % 256 ≡ call chain main store u answers .reached
+  reached-is = rw code-is (result-reads _ _ few .1)
+
+  pub told : printoutOf (w .code / 256) (w .code % 256) answers′ main′ (w .unit .sense) ≡ printout (call chain main store u answers)
+  unfolding outcome
+  told = λ i. printoutOf (cause-is i) (reached-is i) (a .is i .answers) (a .is i .storage) (a .is i .unit .sense)
+
+  -- there is an answer for each command reached
+  pub answered : length answers′ ≡ length chain → w .code % 256 * answerSize ≤ length answers′
+  answered e = rw (reached-is, e) (omega (arith, call-reached classA chain main store u answers .1))
+
+-- a call on a device as the settings have it is what the exercise asks for
+pub performed-is : (s : Settings) (chain main store : List ℕ) (u : Record) → store ≡ device (s .blocks) → u ≡ newRecord (s .ready) (s .readonly)
+    → printout (performed (record { settings = s; storage = main; chain = chain })) ≡ printout (call chain main store u (zeros (length chain)))
+unfolding performed
+performed-is s chain main store u f g = rw (f, g)
+
+-- bytes that were read to the front of a buffer are what is lent of it
+pub front-is : {to bytes back : List ℕ} {n : ℕ} → ReadTo to bytes n back → take n back ≡ bytes
+unfolding put
+front-is {to} {bytes} {back} {n} r = rw (r .front, zero-add) (take-at bytes _ n (sym (r .count)))

@@ -1,0 +1,82 @@
+-- No printout is longer than the program's output. No contract cites this file; the program relies on it.
+use Prim.Native.Nat.{ℕ, zero, suc, _≤_, _<_}
+use native.Mathlib.Omega.{arith}
+use mathlib.Core.Path.{_≡_, refl}
+use mathlib.Core.List.{List}
+use lib.Dec.{eqb}
+use lib.ListN.{length, replicate}
+use borrow.Author.Tests.{eqb-true}
+use Rattle.numbers.specs.Bytes.{AreBytes}
+use Rattle.numbers.proofs.Bytes.{bytes-nil, bytes-cons, bytes-append}
+use Rattle.slices.specs.Parts.{zeros}
+use Rattle.slices.proofs.Laws.{length-zeros, bytes-zeros}
+use Rattle.model.specs.declared.record.Record.{Record}
+use Rattle.model.specs.Rules.{firstOf}
+use Rattle.model.specs.Lent.{newRecord}
+use Rattle.model.specs.Causes.{callCauses}
+use Rattle.model.specs.Chain.{Called, call, callOf, classA}
+use Rattle.numbers.proofs.Choice.{pick-ind}
+use Rattle.model.proofs.Fields.{IsRecord}
+use Rattle.model.proofs.Kept.{call-bytes}
+use Rattle.model.proofs.Lengths.{call-lengths}
+use Rattle.in_place.proofs.Reached.{reached-few}
+use Rattle.text_digits.specs.Digits.{sixDigits}
+use Rattle.text_output.specs.Printout.{printout}
+use Rattle.text_output.proofs.Sizes.{mostPrinted, printout-within, refusal-within}
+use Rattle.text_input.specs.Format.{lines, wrongLine, Exercise, exerciseIn}
+use Rattle.text_input.proofs.Sizes.{wrong-few, settings-few, storage-bytes, storage-few, chain-bytes}
+use Rattle.text_input.proofs.Rights.{few-blocks}
+use Rattle.text_exercise.specs.Exercise.{device, performed, exercise}
+
+block-bytes : (n b : ℕ) → b < 256 → AreBytes (replicate n b)
+block-bytes zero b h = bytes-nil
+block-bytes (suc n) b h = bytes-cons b _ h (block-bytes n b h)
+
+device-bytes : (n : ℕ) → n ≤ 256 → AreBytes (device n)
+unfolding device
+device-bytes zero h = bytes-nil
+device-bytes (suc n) h = bytes-append (device n) _ (device-bytes n (omega arith)) (block-bytes classA n (omega arith))
+
+new-fields : (ready readonly : ℕ) → ready < 256 → readonly < 256 → IsRecord (newRecord ready readonly)
+unfolding newRecord
+new-fields ready readonly h k = record {
+  sense-length = length-zeros 24;
+  read-length = length-zeros 3;
+  written-length = length-zeros 3;
+  movements-length = length-zeros 2;
+  sense-bytes = bytes-zeros 24;
+  read-bytes = bytes-zeros 3;
+  written-bytes = bytes-zeros 3;
+  movements-bytes = bytes-zeros 2;
+  ready-byte = h;
+  read-only-byte = k;
+}
+
+small-cause : (chain main store : List ℕ) (u : Record) (answers : List ℕ) → call chain main store u answers .cause < sixDigits
+unfolding callOf callCauses firstOf
+small-cause chain main store u answers =
+    pick-ind P _ _ _ (λ _. omega arith) (λ _.
+    pick-ind P _ _ _ (λ _. omega arith) (λ _.
+    pick-ind P _ _ _ (λ _. omega arith) (λ _.
+    pick-ind P _ _ _ (λ _. omega arith) (λ _.
+    pick-ind P _ _ _ (λ _. omega arith) (λ _. omega arith)))))
+  where
+    P : ℕ → Type 0
+    P n = n < sixDigits
+
+performed-length : (input : List ℕ) → wrongLine input ≡ 0 → length (printout (performed (exerciseIn (lines input)))) ≤ mostPrinted
+unfolding performed
+performed-length input e =
+    let x : Exercise = exerciseIn (lines input) in
+    let u : Record = newRecord (x .settings .ready) (x .settings .readonly) in
+    let store : List ℕ = device (x .settings .blocks) in
+    let answers : List ℕ = zeros (length (x .chain)) in
+    let fields = new-fields (x .settings .ready) (x .settings .readonly) (settings-few input .0) (settings-few input .1) in
+    let bytes = call-bytes classA (x .chain) (x .storage) store u answers (chain-bytes input) (storage-bytes input) (device-bytes (x .settings .blocks) (omega (arith, few-blocks input e))) fields (bytes-zeros _) in
+    let sizes = call-lengths classA (x .chain) (x .storage) store u answers in
+    printout-within _ _ _ _ _ (small-cause (x .chain) (x .storage) store u answers) (reached-few (x .chain) (x .storage) store u answers _ refl) (bytes .answers-bytes) (omega (arith, sizes .main-length, storage-few input e)) (bytes .unit-fields .sense-length)
+
+pub printout-fits : (input : List ℕ) → length (exercise input) ≤ mostPrinted
+unfolding exercise
+printout-fits input =
+    pick-ind (λ (l : List ℕ). length l ≤ mostPrinted) (eqb (wrongLine input) 0) _ _ (λ e. performed-length input (eqb-true _ _ e)) (λ _. omega (arith, refusal-within (wrongLine input) (omega (arith, wrong-few input))))

@@ -1,0 +1,32 @@
+-- The program `exercise` as a function of its input (01, Each side of the lines).
+--     device      "Block i starts filled with byte i"
+--     mostStore   the bytes of the largest device
+--     performed   the call that an exercise asks for, on a new unit; its answers start as zeros
+--     exercise    what is printed, for every input
+-- Assumes nothing.
+use Prim.Native.Nat.{ℕ, zero, suc, _*_}
+use mathlib.Core.List.{List, [], _++_}
+use lib.ListN.{length, replicate}
+use Rattle.slices.specs.Parts.{zeros}
+use Rattle.numbers.specs.Choice.{_=?_, pick}
+use Rattle.model.specs.Lent.{newRecord}
+use Rattle.model.specs.Chain.{Called, call, classA}
+use Rattle.text_input.specs.Format.{mostBlocks, lines, wrongLine, Exercise, exerciseIn}
+use Rattle.text_output.specs.Printout.{refusal, printout}
+
+unfoldable pub device : ℕ → List ℕ
+device zero = []
+device (suc n) = device n ++ replicate classA n
+
+abbrev pub mostStore : ℕ
+mostStore = mostBlocks * classA
+
+unfoldable pub performed : Exercise → Called
+performed e =
+    let s = e .settings in
+    call (e .chain) (e .storage) (device (s .blocks)) (newRecord (s .ready) (s .readonly)) (zeros (length (e .chain)))
+
+unfoldable pub exercise : List ℕ → List ℕ
+exercise input =
+    let wrong = wrongLine input in
+    pick (wrong =? 0) (printout (performed (exerciseIn (lines input)))) (refusal wrong)
