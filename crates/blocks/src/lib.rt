@@ -1,59 +1,120 @@
-// How blocks move: bytes into blocks of the store, as WRITE does, and blocks of the store into main storage, as READ does.
-// The block size is an argument of each function and blocks are whole, whatever it is. Nothing here is refused: a caller proves that the blocks are in the store.
+// The blocks of a device: where one lies, one read and one stored, and the blocks of a READ and of a WRITE, one after another.
+// Nothing here is refused: a caller proves that the blocks are in the store, and the bytes in the data area.
+use model::ccw::Ccw;
+use model::device::Device;
+use slices::clear;
+use slices::least;
+use storage::deliver;
+use storage::fetch;
 ghost use mathlib.Core.Path.{_≡_};
-ghost use Prim.Native.Nat.{_+_, _*_, _≤_, _<_};
+ghost use Prim.Native.Nat.{_+_, _*_, _≤_};
 ghost use lib.ListN.{length, take};
 ghost use Rattle.slices.specs.Parts.{put, pad};
-ghost use Rattle.model.specs.Lent.{blockStart, blocksFrom, blocksInto};
+ghost use Rattle.model.specs.Lent.{fetched, delivered, blockCount, blockStart, blockAt, blocksFrom, blocksInto};
 ghost use Rattle.model.specs.Commands.{begun};
+ghost use Rattle.storage.specs.Area.{fetchedFrom, deliveredFrom};
 
-// The blocks that n bytes begin. The bounds keep the sum below 2^64.
-pub fn begun(size: usize, n: usize) -> usize
-    requires { ⌜ (1 ≤ size) × (size ≤ 65535) × (n < 4294967296) ⌝ }
-    ensures { λ r. ⌜ r ≡ begun size n ⌝ }
+// The blocks of a device.
+pub fn block_count(d: Device, store: &[u8]) -> usize
+    requires { ⌜ 1 ≤ d .block ⌝ }
+    ensures { λ r. ⌜ r ≡ blockCount d (now (store .entry)) ⌝ }
 {
-    (n + (size - 1)) / size
+    store.len() / d.block
 }
 
-// One block holds the bytes that it has room for, and then zeros.
-fn block_into(size: usize, store: &mut [u8], block: usize, bytes: &[u8])
-    requires { ⌜ ((block + 1) * size ≤ length (now store)) × (length (now bytes) ≤ 65536) ⌝ }
-    ensures { λ _. ⌜ now (store .exit) ≡ put (now (store .entry)) (blockStart size block) (pad size (now (bytes .entry))) ⌝ }
+// The blocks that n bytes begin.
+pub fn begun(d: Device, n: usize) -> usize
+    requires { ⌜ (1 ≤ d .block) × (d .block ≤ 65535) × (n ≤ 65535) ⌝ }
+    ensures { λ r. ⌜ r ≡ begun d n ⌝ }
 {
-    let start = block * size;
-    let end = start + size;
-    slices::fill(&mut store[start..end], bytes);
+    (n + (d.block - 1)) / d.block
 }
 
-// The n blocks from `block` on hold the bytes in turn, and zeros where they run out: the first, then the rest as one area.
-pub fn blocks_into(size: usize, store: &mut [u8], block: usize, n: usize, bytes: &[u8])
-    requires { ⌜ (1 ≤ size) × (1 ≤ n) × ((block + n) * size ≤ length (now store)) × (length (now bytes) ≤ 65536) ⌝ }
-    ensures { λ _. ⌜ now (store .exit) ≡ blocksInto size (now (store .entry)) block n (now (bytes .entry)) ⌝ }
+// Where a block begins in a store of so many bytes. Nobody else says.
+fn place(d: Device, block: usize, held: usize) -> usize
+    requires { ⌜ (block + 1) * d .block ≤ held ⌝ }
+    ensures { λ r. ⌜ (r ≡ blockStart d block) × (r + d .block ≤ held) ⌝ }
 {
-    block_into(size, store, block, bytes);
-    if n == 1 {
-        return;
-    }
-    let start = (block + 1) * size;
-    let end = (block + n) * size;
-    let used = slices::least(size, bytes.len());
-    slices::fill(&mut store[start..end], &bytes[used..]);
+    block * d.block
 }
 
-// The first `count` bytes of the n blocks from `block` on go to `to`, from `at` on. Blocks lie in a row, so this is one copy.
-pub fn blocks_to(
-    size: usize,
+// The first n bytes of a block go to the data area, from a place on.
+fn read_block(d: Device, store: &[u8], block: usize, c: Ccw, main: &mut [u8], from: usize, n: usize)
+    requires { ⌜ ((block + 1) * d .block ≤ length (now store)) × (n ≤ d .block) × (d .block ≤ 65535) × (c .address + (from + n) ≤ length (now main)) ⌝ }
+    ensures { λ _. ⌜ now (main .exit) ≡ deliveredFrom c (now (main .entry)) from (take n (blockAt d (now (store .entry)) block)) ⌝ }
+{
+    let start = place(d, block, store.len());
+    let end = start + d.block;
+    deliver(c, main, from, &store[start..end], n);
+}
+
+// n bytes of the data area, from a place on, and then zeros fill a block.
+fn fill(block: &mut [u8], c: Ccw, main: &[u8], from: usize, n: usize)
+    requires { ⌜ (n ≤ length (now block)) × (n ≤ 65535) × (c .address + (from + n) ≤ length (now main)) ⌝ }
+    ensures { λ _. ⌜ now (block .exit) ≡ pad (length (now (block .entry))) (fetchedFrom c (now (main .entry)) from n) ⌝ }
+{
+    fetch(c, main, from, block, n);
+    clear(&mut block[n..]);
+}
+
+// The block is lent on as its own part of the store.
+fn store_block(
+    d: Device,
+    store: &mut [u8],
+    block: usize,
+    c: Ccw,
+    main: &[u8],
+    from: usize,
+    n: usize,
+)
+    requires { ⌜ ((block + 1) * d .block ≤ length (now store)) × (n ≤ d .block) × (d .block ≤ 65535) × (c .address + (from + n) ≤ length (now main)) ⌝ }
+    ensures { λ _. ⌜ now (store .exit) ≡ put (now (store .entry)) (blockStart d block) (pad (d .block) (fetchedFrom c (now (main .entry)) from n)) ⌝ }
+{
+    let start = place(d, block, store.len());
+    let end = start + d.block;
+    fill(&mut store[start..end], c, main, from, n);
+}
+
+// n bytes of these blocks go to the data area, block by block.
+pub fn read_blocks(
+    d: Device,
     store: &[u8],
     block: usize,
+    blocks: usize,
+    c: Ccw,
+    main: &mut [u8],
     n: usize,
-    to: &mut [u8],
-    at: usize,
-    count: usize,
 )
-    requires { ⌜ ((block + n) * size ≤ length (now store)) × (count ≤ n * size) × (count ≤ 65536) × (at + count ≤ length (now to)) ⌝ }
-    ensures { λ _. ⌜ now (to .exit) ≡ put (now (to .entry)) at (take count (blocksFrom size (now (store .entry)) block n)) ⌝ }
+    requires { ⌜ (1 ≤ d .block) × (d .block ≤ 65535) × ((block + blocks) * d .block ≤ length (now store)) × (n ≤ blocks * d .block) × (c .address + n ≤ length (now main)) ⌝ }
+    ensures { λ _. ⌜ now (main .exit) ≡ delivered c (now (main .entry)) (take n (blocksFrom d (now (store .entry)) block blocks)) ⌝ }
 {
-    let from = block * size;
-    let end = from + n * size;
-    slices::put_at(to, at, &store[from..end], count);
+    let mut i = 0;
+    let mut from = 0;
+    while from < n {
+        let k = least(d.block, n - from);
+        read_block(d, store, block + i, c, main, from, k);
+        i += 1;
+        from += k;
+    }
+}
+
+// n bytes of the data area, and zeros where they run out, go to these blocks, block by block.
+pub fn store_blocks(
+    d: Device,
+    store: &mut [u8],
+    block: usize,
+    blocks: usize,
+    c: Ccw,
+    main: &[u8],
+    n: usize,
+)
+    requires { ⌜ (1 ≤ d .block) × (d .block ≤ 65535) × ((block + blocks) * d .block ≤ length (now store)) × (n ≤ blocks * d .block) × (c .address + n ≤ length (now main)) ⌝ }
+    ensures { λ _. ⌜ now (store .exit) ≡ blocksInto d (now (store .entry)) block blocks (fetched c (now (main .entry)) n) ⌝ }
+{
+    let mut from = 0;
+    for i in 0..blocks {
+        let k = least(d.block, n - from);
+        store_block(d, store, block + i, c, main, from, k);
+        from += k;
+    }
 }

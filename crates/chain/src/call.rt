@@ -1,9 +1,10 @@
 // The call: refused as a whole by the first of causes 1 to 5 that holds, or the chain run from a fresh state.
+use crate::causes::call_cause;
 use crate::run::Walked;
 use crate::run::run_chain;
-use channel::causes::call_cause;
+use model::device::Device;
 use model::record::Record;
-use unit_state::record_left;
+use record::record_left;
 use unit_state::start;
 ghost use mathlib.Core.Path.{_≡_};
 ghost use Rattle.model.specs.Rules.{firstOf};
@@ -11,8 +12,21 @@ ghost use Rattle.model.specs.Causes.{callCauses};
 ghost use Rattle.model.specs.Chain.{call, classA};
 ghost use Rattle.unit_state.specs.Standing.{stateLeft};
 
-// Class A: bytes of a block.
-pub const BLOCK_SIZE: usize = 512;
+// Class A: the bytes of a block.
+const BLOCK_SIZE: usize = 512;
+
+fn class_a() -> Device
+    ensures { λ r. ⌜ r ≡ classA ⌝ }
+{
+    Device { block: BLOCK_SIZE }
+}
+
+// The cause that refuses a call, or 0.
+pub fn cause_of(chain: &[u8], main: &[u8], store: &[u8], answers: &[u8]) -> u8
+    ensures { λ r. ⌜ r ≡ firstOf (callCauses classA (now (chain .entry)) (now (main .entry)) (now (store .entry)) (now (answers .entry))) ⌝ }
+{
+    call_cause(class_a(), chain, main, store, answers)
+}
 
 // A call that no cause refuses.
 pub fn run_allowed(
@@ -25,8 +39,7 @@ pub fn run_allowed(
     requires { ⌜ firstOf (callCauses classA (now chain) (now main) (now store) (now answers)) ≡ 0 ⌝ }
     ensures { λ r. ⌜ record { cause = 0; reached = r .reached; unit = stateLeft u (r .left) .unit; main = now (main .exit); store = now (store .exit); answers = now (answers .exit) } ≡ call (now (chain .entry)) (now (main .entry)) (now (store .entry)) u (now (answers .entry)) ⌝ }
 {
-    let s = start(u);
-    run_chain(BLOCK_SIZE, chain, u, s, main, store, answers)
+    run_chain(class_a(), chain, u, start(u), main, store, answers)
 }
 
 // What a call gives by value.
@@ -45,7 +58,7 @@ pub fn call(
 ) -> Called
     ensures { λ r. ⌜ record { cause = r .cause; reached = r .reached; unit = r .unit; main = now (main .exit); store = now (store .exit); answers = now (answers .exit) } ≡ call (now (chain .entry)) (now (main .entry)) (now (store .entry)) u (now (answers .entry)) ⌝ }
 {
-    let cause = call_cause(BLOCK_SIZE, chain, main, store, answers);
+    let cause = cause_of(chain, main, store, answers);
     if cause != 0 {
         return Called {
             cause: cause,

@@ -1,22 +1,67 @@
 // The run of a chain: one turn for each command reached, until one of them ends it.
 use channel::ccw::ccw_at;
+use endings::Answer;
+use model::ccw::Ccw;
+use model::device::Device;
 use model::record::Record;
 use model::status::Channel;
+use slices::put_at;
 use unit::step;
 use unit_state::Left;
 use unit_state::Running;
 ghost use mathlib.Core.Path.{_≡_};
 ghost use mathlib.Core.Bool.{true, not, _&&_};
 ghost use Prim.Native.Nat.{ℕ, _+_, _*_, _/_, _≤_, _<_};
-ghost use lib.ListN.{length};
-ghost use Rattle.numbers.specs.Big.{bytes8};
+ghost use lib.ListN.{length, set};
+ghost use Rattle.numbers.specs.Choice.{_=?_, pick};
 ghost use Rattle.slices.specs.Parts.{put};
-ghost use Rattle.numbers.specs.Choice.{_=?_};
-ghost use Rattle.model.specs.Lent.{blockCount};
+ghost use Rattle.model.specs.Names.{chain-command, INCORRECT-LENGTH};
+ghost use Rattle.model.specs.Lent.{ccwSize, flag};
+ghost use Rattle.model.specs.Answer.{answerSize};
 ghost use Rattle.model.specs.Chain.{system, next, more, run};
-ghost use Rattle.endings.specs.Report.{marked};
-ghost use Rattle.unit_state.specs.Standing.{stateOf, stateLeft, Secure};
-ghost use Rattle.chain.specs.Promises.{Runnable};
+ghost use Rattle.unit_state.specs.Standing.{stateOf, stateLeft, Sound};
+ghost use Rattle.endings.specs.Ending.{answerBytes, marked};
+
+// The bytes of a CCW, and of an answer.
+const CCW_SIZE: usize = 8;
+
+const ANSWER_SIZE: usize = 8;
+
+// A wrong length is the channel's to mark, in its status.
+fn mark(answers: &mut [u8], at: usize, wrong: bool)
+    requires { ⌜ at < length (now answers) ⌝ }
+    ensures { λ _. ⌜ now (answers .exit) ≡ pick wrong (set (now (answers .entry)) at INCORRECT-LENGTH) (now (answers .entry)) ⌝ }
+{
+    if wrong {
+        answers[at] = Channel::INCORRECT_LENGTH;
+    }
+}
+
+// The answer of command i goes to its place.
+fn put_answer(answers: &mut [u8], i: usize, a: Answer, wrong: bool)
+    requires { ⌜ i * answerSize + answerSize ≤ length (now answers) ⌝ }
+    ensures { λ _. ⌜ now (answers .exit) ≡ put (now (answers .entry)) (i * answerSize) (marked wrong (answerBytes a)) ⌝ }
+{
+    let at = i * ANSWER_SIZE;
+    let front = numbers::bytes4(a.front);
+    let back = numbers::bytes4(a.back);
+    put_at(answers, at, &front, 4);
+    put_at(answers, at + 4, &back, 4);
+    mark(answers, at + 1, wrong);
+}
+
+// "A refusal ends the chain", a wrong length ends it, and so does a CCW without flag 40.
+fn goes_on(c: Ccw, cause: u8, wrong: bool) -> bool
+    ensures { λ r. ⌜ r ≡ (cause =? 0 && not wrong && flag c chain-command) ⌝ }
+{
+    if cause != 0 {
+        return false;
+    }
+    if wrong {
+        return false;
+    }
+    c.flags.chained()
+}
 
 // How one turn leaves the unit, and whether the chain goes on.
 pub struct Turn {
@@ -24,27 +69,9 @@ pub struct Turn {
     pub go: bool,
 }
 
-// The answer of a command goes to its place, and the channel marks a wrong length in it. Whether the chain may go on: a refused
-// command ends it, and so does a wrong length.
-fn present(answers: &mut [u8], at: usize, answer: u64, cause: u8, wrong: bool) -> bool
-    requires { ⌜ at + 8 ≤ length (now answers) ⌝ }
-    ensures { λ r. ⌜ (now (answers .exit) ≡ put (now (answers .entry)) at (marked (cause =? 0 && wrong) (bytes8 answer))) × (r ≡ (cause =? 0 && not wrong)) ⌝ }
-{
-    let bytes = numbers::bytes8(answer);
-    slices::put_at(answers, at, &bytes, 8);
-    if cause != 0 {
-        return false;
-    }
-    if wrong {
-        answers[at + 1] = Channel::INCORRECT_LENGTH;
-        return false; // a wrong length
-    }
-    true
-}
-
-// Command i: its CCW, the command itself, its answer. The chain goes on where that lets it and the CCW has flag 40.
+// Command i: its CCW, the command itself, its answer.
 fn one_turn(
-    size: usize,
+    d: Device,
     chain: &[u8],
     i: usize,
     u: Record,
@@ -53,21 +80,19 @@ fn one_turn(
     store: &mut [u8],
     answers: &mut [u8],
 ) -> Turn
-    requires { ⌜ (i * 8 + 8 ≤ length (now chain)) × (length (now chain) ≤ 256) × (i * 8 + 8 ≤ length (now answers)) × Runnable size (now store) × Secure s (blockCount size (now store)) ⌝ }
-    ensures after { λ r. ⌜ ((k : ℕ) → system (stateLeft u (r .left)) (now (main .exit)) (now (store .exit)) (now (answers .exit)) (i + 1) ≡ next size (now (chain .entry)) i (system (stateOf u s) (now (main .entry)) (now (store .entry)) (now (answers .entry)) k)) ⌝ }
-    ensures go { λ r. ⌜ ((k : ℕ) → r .go ≡ more size (now (chain .entry)) i (system (stateOf u s) (now (main .entry)) (now (store .entry)) (now (answers .entry)) k)) ⌝ }
+    requires { ⌜ (i * ccwSize + ccwSize ≤ length (now chain)) × (length (now chain) ≤ 256) × (i * answerSize + answerSize ≤ length (now answers)) × Sound d s (now store) ⌝ }
+    ensures after { λ r. ⌜ ((k : ℕ) → system (stateLeft u (r .left)) (now (main .exit)) (now (store .exit)) (now (answers .exit)) (i + 1) ≡ next d (now (chain .entry)) i (system (stateOf u s) (now (main .entry)) (now (store .entry)) (now (answers .entry)) k)) ⌝ }
+    ensures go { λ r. ⌜ ((k : ℕ) → r .go ≡ more d (now (chain .entry)) i (system (stateOf u s) (now (main .entry)) (now (store .entry)) (now (answers .entry)) k)) ⌝ }
     ensures same { λ r. ⌜ (r .go ≡ true → stateLeft u (r .left) ≡ stateOf u (r .left .state)) ⌝ }
 {
     let c = ccw_at(chain, i);
-    let d = step(size, u, c, s, main, store);
-    let l = d.left;
-    if present(answers, i * 8, d.answer, l.cause, d.wrong) {
-        return Turn {
-            left: l,
-            go: c.flags.chained(),
-        };
+    let e = step(d, u, c, s, main, store);
+    let l = e.left;
+    put_answer(answers, i, e.answer, e.wrong);
+    Turn {
+        left: l,
+        go: goes_on(c, l.cause, e.wrong),
     }
-    Turn { left: l, go: false }
 }
 
 // How a run leaves the unit, and the commands reached.
@@ -77,7 +102,7 @@ pub struct Walked {
 }
 
 pub fn run_chain(
-    size: usize,
+    d: Device,
     chain: &[u8],
     u: Record,
     s: Running,
@@ -85,14 +110,14 @@ pub fn run_chain(
     store: &mut [u8],
     answers: &mut [u8],
 ) -> Walked
-    requires { ⌜ (length (now chain) ≤ length (now answers)) × (length (now chain) ≤ 256) × Runnable size (now store) × Secure s (blockCount size (now store)) ⌝ }
-    ensures { λ r. ⌜ system (stateLeft u (r .left)) (now (main .exit)) (now (store .exit)) (now (answers .exit)) (r .reached) ≡ run size (now (chain .entry)) (length (now (chain .entry)) / 8) 0 (system (stateOf u s) (now (main .entry)) (now (store .entry)) (now (answers .entry)) 0) ⌝ }
+    requires { ⌜ (length (now chain) ≤ length (now answers)) × (length (now chain) ≤ 256) × Sound d s (now store) ⌝ }
+    ensures { λ r. ⌜ system (stateLeft u (r .left)) (now (main .exit)) (now (store .exit)) (now (answers .exit)) (r .reached) ≡ run d (now (chain .entry)) (length (now (chain .entry)) / ccwSize) 0 (system (stateOf u s) (now (main .entry)) (now (store .entry)) (now (answers .entry)) 0) ⌝ }
 {
-    let n = chain.len() / 8;
+    let n = chain.len() / CCW_SIZE;
     let mut state = s;
     let mut i = 0;
     while i < n {
-        let t = one_turn(size, chain, i, u, state, main, store, answers);
+        let t = one_turn(d, chain, i, u, state, main, store, answers);
         let l = t.left;
         state = l.state;
         i += 1;

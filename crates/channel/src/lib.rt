@@ -1,3 +1,3 @@
-// What the channel does around a command: whether the call may begin, and the CCW.
-pub mod causes;
+// What the channel does before the unit sees a command: the CCW, and its own tests of it.
 pub mod ccw;
+pub mod tests;

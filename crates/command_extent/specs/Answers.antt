@@ -1,6 +1,21 @@
--- The numbers of the answers that the code gives as an enum: 01's causes, and 0 where the parameters are taken.
+-- What the code answers to the parameters of a DEFINE EXTENT.
+--     definedNumber   the numbers of the answers: 01's causes, and 0 where the parameters are taken
+--     definedBy       the command by its sixteen bytes, on a device of so many blocks: refused, or accepted with the extent that they say
 -- Assumes nothing.
 use Prim.Native.Nat.{ℕ}
+use mathlib.Core.List.{List}
+use Rattle.numbers.specs.Choice.{_=?_, pick}
+use Rattle.slices.specs.Parts.{zeros}
+use Rattle.model.specs.declared.ccw.Ccw.{Ccw}
+use Rattle.model.specs.declared.device.Device.{Device}
+use Rattle.model.specs.declared.state.Before.the-variants.{Other}
+use Rattle.model.specs.Rules.{firstOf}
+use Rattle.model.specs.Parameters.{extentLength, extentIn}
+use Rattle.model.specs.Causes.{extentCauses}
+use Rattle.unit_state.specs.declared.Running.{Running}
+use Rattle.unit_state.specs.Standing.{withExtent}
+use Rattle.endings.specs.declared.Ended.{Ended}
+use Rattle.endings.specs.Ending.{endOf}
 use Rattle.command_extent.specs.declared.Defined.{Defined}
 use Rattle.command_extent.specs.declared.Defined.the-variants.{Taken, BadMask, Maintenance, BadSize, FirstAfterLast, PastDevice}
 
@@ -11,3 +26,8 @@ definedNumber Maintenance = 23
 definedNumber BadSize = 24
 definedNumber FirstAfterLast = 25
 definedNumber PastDevice = 26
+
+unfoldable pub definedBy : Device → ℕ → Ccw → Running → List ℕ → Ended
+definedBy dev blocks c s p =
+    let cause = firstOf (extentCauses dev blocks p) in
+    pick (cause =? 0) (endOf c (withExtent s (s .counts) (extentIn p) Other) extentLength extentLength 0 0 (zeros 8)) (endOf c s 0 0 0 cause (zeros 8))

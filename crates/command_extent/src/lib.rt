@@ -1,12 +1,22 @@
-// The sixteen bytes of a DEFINE EXTENT: taken apart, and taken or refused.
-// `define_parameters` is the way in; a refusal is a case of its answer, with 01's number.
+// DEFINE EXTENT: its sixteen bytes taken apart, and taken or refused (`define_parameters`; a refusal is a case of its answer, with
+// 01's number); and the command, `define_extent`. It changes no storage.
+use blocks::block_count;
+use endings::Ended;
+use endings::accept;
+use endings::refuse;
+use model::ccw::Ccw;
+use model::device::Device;
 use model::extent::Displacement;
 use model::extent::Extent;
 use model::extent::Offset;
+use model::state::Before;
+use storage::fetch;
+use unit_state::Running;
+use unit_state::extent_set;
 ghost use mathlib.Core.Path.{_≡_};
 ghost use mathlib.Core.Bool.{not, _&&_, _||_};
 ghost use mathlib.Core.List.{[], _∷_};
-ghost use Prim.Native.Nat.{_≤_};
+ghost use Prim.Native.Nat.{_≤_, _<_};
 ghost use lib.Dec.{eqb, ltb};
 ghost use lib.ListN.{length};
 ghost use Rattle.numbers.specs.Bits.{bit, anyBit};
@@ -14,7 +24,13 @@ ghost use Rattle.numbers.specs.Choice.{oneOf};
 ghost use Rattle.model.specs.Rules.{firstOf};
 ghost use Rattle.model.specs.Parameters.{extentIn, address};
 ghost use Rattle.model.specs.Causes.{extentCauses};
-ghost use Rattle.command_extent.specs.Answers.{definedNumber};
+ghost use Rattle.model.specs.declared.record.Record.{Record};
+ghost use Rattle.model.specs.Names.{DEFINE-EXTENT};
+ghost use Rattle.model.specs.Parameters.{extentLength};
+ghost use Rattle.model.specs.Commands.{performed};
+ghost use Rattle.unit_state.specs.Standing.{stateOf, Sound, Handed};
+ghost use Rattle.endings.specs.Ending.{Ends};
+ghost use Rattle.command_extent.specs.Answers.{definedNumber, definedBy};
 
 pub enum Defined {
     Taken,
@@ -93,10 +109,10 @@ fn past_device(e: Extent, blocks: usize) -> bool
     blocks as u64 <= end
 }
 
-// The sixteen bytes, on a device of so many blocks of this size.
-pub fn define_parameters(size: usize, blocks: usize, p: &[u8]) -> Defined
+// The sixteen bytes, on this device, of so many blocks.
+pub fn define_parameters(d: Device, blocks: usize, p: &[u8]) -> Defined
     requires { ⌜ length (now p) ≡ 16 ⌝ }
-    ensures { λ r. ⌜ definedNumber r ≡ firstOf (extentCauses size blocks (now (p .entry))) ⌝ }
+    ensures { λ r. ⌜ definedNumber r ≡ firstOf (extentCauses d blocks (now (p .entry))) ⌝ }
 {
     let e = extent_in(p);
     if mask_wrong(p[0], p[1]) {
@@ -105,7 +121,7 @@ pub fn define_parameters(size: usize, blocks: usize, p: &[u8]) -> Defined
     if maintenance(p[0]) {
         return Defined::Maintenance;
     }
-    if size_wrong(numbers::be2(p, 2), size) {
+    if size_wrong(numbers::be2(p, 2), d.block) {
         return Defined::BadSize;
     }
     if e.last.0 < e.first.0 {
@@ -115,4 +131,36 @@ pub fn define_parameters(size: usize, blocks: usize, p: &[u8]) -> Defined
         return Defined::PastDevice;
     }
     Defined::Taken
+}
+
+// The bytes that DEFINE EXTENT moves.
+const EXTENT_LENGTH: usize = 16;
+
+// The command by its sixteen bytes.
+fn define_by(d: Device, blocks: usize, c: Ccw, s: Running, p: &[u8]) -> Ended
+    requires { ⌜ (length (now p) ≡ extentLength) × (extentLength ≤ c .count) × (c .count < 65536) ⌝ }
+    ensures { λ r. ⌜ r ≡ definedBy d blocks c s (now (p .entry)) ⌝ }
+{
+    let answer = define_parameters(d, blocks, p);
+    let cause = answer.number();
+    if cause != 0 {
+        return refuse(c, s, cause);
+    }
+    let t = extent_set(s, s.counts, extent_in(p), Before::Other);
+    accept(c, t, EXTENT_LENGTH, EXTENT_LENGTH, 0)
+}
+
+pub fn define_extent(d: Device, c: Ccw, s: Running, main: &[u8], store: &[u8]) -> Ended
+    requires { ⌜ Sound d s (now store) × Handed c (now main) × (c .command ≡ DEFINE-EXTENT) ⌝ }
+    ensures { λ r. ⌜ ((u : Record) → Ends u c s r (now (main .entry)) (now (store .entry)) (performed d c (stateOf u s) (now (main .entry)) (now (store .entry)))) ⌝ }
+{
+    if c.count < EXTENT_LENGTH {
+        return refuse(c, s, 20);
+    }
+    if s.defined {
+        return refuse(c, s, 21);
+    }
+    let mut p = [0u8; EXTENT_LENGTH];
+    fetch(c, main, 0, &mut p, EXTENT_LENGTH);
+    define_by(d, block_count(d, store), c, s, &p)
 }

@@ -1,6 +1,21 @@
--- The numbers of the answers that the code gives as an enum: 01's causes, and 0 where the parameters are taken.
+-- What the code answers to the parameters of a LOCATE.
+--     locationNumber   the numbers of the answers: 01's causes, and 0 where the parameters are taken
+--     locatedBy        the command by its eight bytes: refused, or accepted with what they locate
 -- Assumes nothing.
 use Prim.Native.Nat.{ℕ}
+use mathlib.Core.List.{List}
+use Rattle.numbers.specs.Choice.{_=?_, pick}
+use Rattle.slices.specs.Parts.{zeros}
+use Rattle.model.specs.declared.ccw.Ccw.{Ccw}
+use Rattle.model.specs.declared.record.Record.{Record}
+use Rattle.model.specs.Rules.{firstOf}
+use Rattle.model.specs.Parameters.{locateLength, locatedIn}
+use Rattle.model.specs.Causes.{locationCauses}
+use Rattle.log.specs.Counts.{withMovement}
+use Rattle.unit_state.specs.declared.Running.{Running}
+use Rattle.unit_state.specs.Standing.{withLocate, stateOf}
+use Rattle.endings.specs.declared.Ended.{Ended}
+use Rattle.endings.specs.Ending.{endOf, shown}
 use Rattle.command_locate.specs.declared.Location.{Location}
 use Rattle.command_locate.specs.declared.Location.the-variants.{Found, BadModifier, BadOperation, BadCount, BadReplication, OutsideExtent, Forbidden, ReadOnly, NoAlternate}
 
@@ -14,3 +29,8 @@ locationNumber OutsideExtent = 36
 locationNumber Forbidden = 37
 locationNumber ReadOnly = 38
 locationNumber NoAlternate = 39
+
+unfoldable pub locatedBy : Record → Ccw → Running → List ℕ → Ended
+locatedBy u c s p =
+    let cause = firstOf (locationCauses (stateOf u s) p) in
+    pick (cause =? 0) (endOf c (withLocate s (withMovement (s .counts)) (locatedIn p)) locateLength locateLength 0 0 (zeros 8)) (endOf c s 0 0 0 cause (shown cause p))

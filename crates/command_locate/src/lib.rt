@@ -1,23 +1,35 @@
-// The eight bytes of a LOCATE: taken apart, and taken or refused.
-// `locate_parameters` is the way in; a refusal is a case of its answer, with 01's number.
+// LOCATE: its eight bytes taken apart, and taken or refused (`locate_parameters`; a refusal is a case of its answer, with 01's
+// number); and the command, `locate`. It changes no storage.
+use endings::Ended;
+use endings::accept;
+use endings::end;
+use endings::refuse;
+use log::movement_counted;
+use model::ccw::Ccw;
 use model::extent::Displacement;
 use model::extent::Extent;
 use model::extent::Located;
 use model::record::Record;
+use storage::fetch;
 use unit_state::Running;
+use unit_state::locate_set;
 ghost use mathlib.Core.Path.{_≡_};
 ghost use mathlib.Core.Bool.{not, _&&_, _||_};
-ghost use mathlib.Core.List.{[], _∷_};
-ghost use Prim.Native.Nat.{_%_, _<_};
+ghost use mathlib.Core.List.{List, [], _∷_};
+ghost use Prim.Native.Nat.{ℕ, _%_, _≤_, _<_};
 ghost use lib.Dec.{eqb, ltb};
 ghost use lib.ListN.{length};
 ghost use Rattle.numbers.specs.Bits.{anyBit};
 ghost use Rattle.numbers.specs.Choice.{pick, oneOf};
+ghost use Rattle.model.specs.declared.device.Device.{Device};
+ghost use Rattle.model.specs.Names.{LOCATE};
 ghost use Rattle.model.specs.Rules.{firstOf};
-ghost use Rattle.model.specs.Parameters.{locatedIn, operations, writes, forbids, outside};
+ghost use Rattle.model.specs.Parameters.{locateLength, locatedIn, operations, writes, forbids, outside};
 ghost use Rattle.model.specs.Causes.{locationCauses, permissionCauses};
-ghost use Rattle.unit_state.specs.Standing.{stateOf};
-ghost use Rattle.command_locate.specs.Answers.{locationNumber};
+ghost use Rattle.model.specs.Commands.{performed};
+ghost use Rattle.unit_state.specs.Standing.{stateOf, Handed};
+ghost use Rattle.endings.specs.Ending.{shown, Ends};
+ghost use Rattle.command_locate.specs.Answers.{locationNumber, locatedBy};
 
 pub enum Location {
     Found,
@@ -206,4 +218,44 @@ pub fn locate_parameters(u: Record, s: Running, p: &[u8]) -> Location
     }
     let n = blocks_processed(l, replication);
     permit(u, s, l, n)
+}
+
+// The bytes that LOCATE moves.
+const LOCATE_LENGTH: usize = 8;
+
+// The parameters that a cause shows: these with 39, else zeros.
+fn shown_by(cause: u8, p: [u8; 8]) -> [u8; 8]
+    ensures { λ r. ⌜ r ≡ shown cause p ⌝ }
+{
+    if cause == 39 { p } else { [0u8; 8] }
+}
+
+// The command by its eight bytes.
+fn locate_by(u: Record, c: Ccw, s: Running, p: [u8; 8]) -> Ended
+    requires { ⌜ (locateLength ≤ c .count) × (c .count < 65536) ⌝ }
+    ensures { λ r. ⌜ r ≡ locatedBy u c s p ⌝ }
+{
+    let answer = locate_parameters(u, s, &p);
+    let cause = answer.number();
+    if cause != 0 {
+        return end(c, s, 0, 0, 0, cause, shown_by(cause, p));
+    }
+    let t = locate_set(s, movement_counted(s.counts), located_in(&p));
+    accept(c, t, LOCATE_LENGTH, LOCATE_LENGTH, 0)
+}
+
+// Its parameters are taken from main storage now, when it runs.
+pub fn locate(u: Record, c: Ccw, s: Running, main: &[u8]) -> Ended
+    requires { ⌜ Handed c (now main) × (c .command ≡ LOCATE) ⌝ }
+    ensures { λ r. ⌜ ((d : Device) (store : List ℕ) → Ends u c s r (now (main .entry)) store (performed d c (stateOf u s) (now (main .entry)) store)) ⌝ }
+{
+    if !s.defined {
+        return refuse(c, s, 30);
+    }
+    if c.count < LOCATE_LENGTH {
+        return refuse(c, s, 31);
+    }
+    let mut p = [0u8; LOCATE_LENGTH];
+    fetch(c, main, 0, &mut p, LOCATE_LENGTH);
+    locate_by(u, c, s, p)
 }

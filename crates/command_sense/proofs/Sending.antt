@@ -1,58 +1,74 @@
--- What bytes that were sent make of the sense commands. No contract cites this file.
---     sent-outcome                      the parts of a command that sends bytes are its outcome
---     type-sent, sense-sent, log-sent   by SENSE TYPE, SENSE, and READ AND RESET BUFFERED LOG
+-- What was sent, and the ending, are the command. No contract cites this file.
+--     sense-ends, type-ends, log-ends
 use Prim.Native.Nat.{ℕ, min}
-use mathlib.Core.Path.{_≡_, refl, ap, _∙_}
+use mathlib.Core.Path.{_≡_, refl, sym, ap, _∙_}
+use mathlib.Core.Bool.{false, and-false}
 use mathlib.Core.List.{List, [], _∷_}
 use lib.ListN.{length, take}
-use Rattle.slices.specs.Parts.{zeros, put}
+use Rattle.slices.specs.Parts.{zeros}
 use Rattle.model.specs.declared.ccw.Ccw.{Ccw}
+use Rattle.model.specs.declared.device.Device.{Device}
+use Rattle.model.specs.declared.record.Counts.{Counts}
 use Rattle.model.specs.declared.record.Record.{Record}
 use Rattle.model.specs.declared.state.Before.the-variants.{Other}
 use Rattle.model.specs.State.{State}
+use Rattle.numbers.specs.Choice.{_=?_}
+use Rattle.model.specs.Names.{NO-OPERATION, SENSE, SENSE-TYPE, READ-LOG}
 use Rattle.model.specs.Lent.{delivered}
 use Rattle.model.specs.Log.{withSense, withCounts, logOf, logReset}
-use Rattle.model.specs.Commands.{out, after, ended, sent, sense, senseType, readLog}
-use Rattle.model.specs.declared.record.Counts.{Counts}
-use Rattle.log.specs.Counts.{counted}
-use Rattle.log.proofs.Stores.{Arrays, log-length}
+use Rattle.model.specs.Commands.{Out, after, cleared, sent, sense, senseType, readLog, performed}
+use Rattle.model.proofs.Steps.{performed-sense, performed-sense-type, performed-read-log}
+use Rattle.log.specs.Counts.{counted, noCounts}
+use Rattle.log.proofs.Counting.{none-counted}
 use Rattle.unit_state.specs.declared.Running.{Running}
-use Rattle.unit_state.specs.Standing.{senseNow, unitOf, stateOf}
-use Rattle.endings.specs.declared.Done.{Done}
-use Rattle.endings.specs.Cleared.{cleared}
-use Rattle.endings.specs.Report.{reported, report, outcome, outcomeOf}
-use Rattle.endings.proofs.Deciding.{done-outcome}
+use Rattle.unit_state.specs.Standing.{wentOn, senseNow, unitOf, stateOf}
+use Rattle.unit_state.proofs.Units.{went-on, same-counts}
+use Rattle.endings.specs.declared.Ended.{Ended}
+use Rattle.endings.specs.Ending.{Ends}
+use Rattle.endings.proofs.Ends.{accepted-ends}
+use Rattle.command_sense.specs.Sent.{sentEnd}
 
-sent-out : (c : Ccw) (s t : State) (main main′ store bytes : List ℕ) (can n : ℕ) (v : Record)
-    → t ≡ after s v Other → n ≡ min (c .count) can → main′ ≡ put main (c .address) (take n bytes)
-    → out (ended t n can 0) main′ store ≡ sent c s main store can bytes v
-unfolding sent delivered
-sent-out c s t main main′ store bytes can n v e f g = rw (e, g, f)
+module _ (u : Record) (dev : Device) (c : Ccw) (s : Running) (main store : List ℕ) (r : Ended) (main′ bytes : List ℕ) where
+  -- a command that is none of NO-OPERATION, of code `command`, and that sends these bytes and leaves that record
+  sent-ends : (x : Out) (t : State) (command can : ℕ) (v : Record) (k : Counts) → x ≡ sent c t main store can bytes v → c .command ≡ command → command =? NO-OPERATION ≡ false
+      → length bytes ≡ can → r ≡ sentEnd c s (length bytes) k → main′ ≡ delivered c main (take (min (c .count) (length bytes)) bytes) → stateOf u (wentOn s k Other) ≡ after t v Other
+      → Ends u c s r main′ store x
+  unfolding sent
+  sent-ends x t command can v k d e n l f m w =
+      rw d
+      (accepted-ends u c s main store (wentOn s k Other) (min (c .count) can) can 0 r main′ store _ (rw l at f) (rw (e, n) (sym (and-false (s .kept)))) (rw w refl) (rw l at m) refl)
 
-pub sent-outcome : (u : Record) (c : Ccw) (s t : Running) (main main′ store bytes : List ℕ) (can n : ℕ) (v : Record) (d : Done)
-    → stateOf u t ≡ after (stateOf u s) v Other → n ≡ min (c .count) can → main′ ≡ put main (c .address) (take n bytes)
-    → reported u c d ≡ report c (ended (stateOf u t) n can 0)
-    → outcome u c d main′ store ≡ outcomeOf c (sent c (stateOf u s) main store can bytes v)
-sent-outcome u c s t main main′ store bytes can n v d e f g h =
-    done-outcome u c d main′ store (ended (stateOf u t) n can 0) h ∙ ap (outcomeOf c) (sent-out c (stateOf u s) (stateOf u t) main main′ store bytes can n v e f g)
+  cleared-on : stateOf u (wentOn s (s .counts) Other) ≡ after (cleared (stateOf u s)) (cleared (stateOf u s) .unit) Other
+  cleared-on = went-on u s (s .counts) Other ∙ ap (λ (v : Record). after (cleared (stateOf u s)) v Other) (same-counts u s)
 
-module _ (u : Record) (c : Ccw) (s : Running) (main store : List ℕ) where
-  log-zeroed : sent c (stateOf u s) main store 24 (logOf (counted (withSense u (zeros 24)) (s .counts))) (logReset (withSense u (zeros 24))) ≡ readLog c (cleared (stateOf u s)) main store
-  unfolding sent readLog logReset cleared after counted withSense withCounts stateOf unitOf
-  log-zeroed = refl
+  -- SENSE goes on from the state as it is, and leaves it with no sense
+  sensed : after (cleared (stateOf u s)) (cleared (stateOf u s) .unit) Other ≡ after (stateOf u s) (withSense (stateOf u s .unit) (zeros 24)) Other
+  unfolding cleared after
+  sensed = refl
 
-  pub type-sent : sent c (stateOf u s) main store 7 (0xFF ∷ 0x00 ∷ 0x97 ∷ 0x01 ∷ 0x05 ∷ 0x12 ∷ 0x01 ∷ []) (counted (withSense u (zeros 24)) (s .counts)) ≡ senseType c (cleared (stateOf u s)) main store
-  unfolding sent senseType cleared after counted withSense withCounts stateOf unitOf
-  type-sent = refl
+  found-sense : senseNow (u .sense) (s .kept) ≡ stateOf u s .unit .sense
+  unfolding stateOf unitOf counted withCounts withSense
+  found-sense = refl
 
-  pub sense-sent : (bytes : List ℕ) → bytes ≡ senseNow (u .sense) (s .kept) → length bytes ≡ 24
-      → sent c (stateOf u s) main store (length bytes) bytes (counted (withSense u (zeros 24)) (s .counts)) ≡ sense c (stateOf u s) main store
-  unfolding sense stateOf unitOf counted withSense withCounts
-  sense-sent bytes e n = rw (n, e)
+  pub sense-ends : c .command ≡ SENSE → bytes ≡ senseNow (u .sense) (s .kept) → length bytes ≡ 24 → r ≡ sentEnd c s (length bytes) (s .counts)
+      → main′ ≡ delivered c main (take (min (c .count) (length bytes)) bytes) → Ends u c s r main′ store (performed dev c (stateOf u s) main store)
+  unfolding sense
+  sense-ends k b l e m =
+      sent-ends _ (stateOf u s) SENSE 24 _ (s .counts) (performed-sense dev c (stateOf u s) main store k ∙ ap (λ (bs : List ℕ). sent c (stateOf u s) main store 24 bs (withSense (stateOf u s .unit) (zeros 24))) (sym (b ∙ found-sense)))
+      k refl l e m (cleared-on ∙ sensed)
 
-  pub log-sent : (bytes : List ℕ) (k : Counts) → Arrays (s .counts) → ((v : Record) → bytes ≡ logOf (counted v (s .counts))) → ((v : Record) → counted v k ≡ logReset v)
-      → sent c (stateOf u s) main store (length bytes) bytes (counted (withSense u (zeros 24)) k) ≡ readLog c (cleared (stateOf u s)) main store
-  log-sent bytes k a e f =
-      let v = withSense u (zeros 24) in
-      let long : length bytes ≡ 24 = ap length (e v) ∙ log-length v (s .counts) a in
-      rw (long, e v, f v) log-zeroed
+  pub type-ends : c .command ≡ SENSE-TYPE → bytes ≡ 0xFF ∷ 0x00 ∷ 0x97 ∷ 0x01 ∷ 0x05 ∷ 0x12 ∷ 0x01 ∷ [] → r ≡ sentEnd c s (length bytes) (s .counts)
+      → main′ ≡ delivered c main (take (min (c .count) (length bytes)) bytes) → Ends u c s r main′ store (performed dev c (stateOf u s) main store)
+  unfolding senseType
+  type-ends k b e m =
+      sent-ends _ (cleared (stateOf u s)) SENSE-TYPE 7 _ (s .counts) (performed-sense-type dev c (stateOf u s) main store k ∙ ap (λ (bs : List ℕ). sent c (cleared (stateOf u s)) main store 7 bs (cleared (stateOf u s) .unit)) (sym b))
+      k refl (rw b refl) e m cleared-on
+
+  pub log-ends : c .command ≡ READ-LOG → ((v : Record) → bytes ≡ logOf (counted v (s .counts))) → length bytes ≡ 24 → r ≡ sentEnd c s (length bytes) noCounts
+      → main′ ≡ delivered c main (take (min (c .count) (length bytes)) bytes) → Ends u c s r main′ store (performed dev c (stateOf u s) main store)
+  unfolding readLog
+  log-ends k b l e m =
+      let v : Record = cleared (stateOf u s) .unit in
+      let same : bytes ≡ logOf v = b v ∙ ap logOf (same-counts u s) in
+      sent-ends _ (cleared (stateOf u s)) READ-LOG 24 _ noCounts (performed-read-log dev c (stateOf u s) main store k ∙ ap (λ (bs : List ℕ). sent c (cleared (stateOf u s)) main store 24 bs (logReset v)) (sym same))
+      k refl l e m (went-on u s noCounts Other ∙ ap (λ (w : Record). after (cleared (stateOf u s)) w Other) (none-counted v))

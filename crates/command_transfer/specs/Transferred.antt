@@ -1,38 +1,40 @@
--- What contracts of the transfers' parts say.
---     readDone, writeDone   the answer and state of a READ and of a WRITE that moved n bytes of the `can` that they could
---     wholeOf, iplDone      the extent over a device of so many blocks; the answer and state of a READ IPL
---     Sized        the numbers are as small as a call has them, so that no sum and no product of them wraps
+-- How the code's transfers end.
+--     moveOf                       what a READ or WRITE moves: by the LOCATE before it, the address rule and its count
+--     readEnd, writeEnd, iplEnd    READ, WRITE and READ IPL, once their bytes are moved
 -- Assumes nothing.
-use Prim.Native.Nat.{ℕ, _-_, _≤_, _<_}
-use mathlib.Core.List.{List}
-use lib.ListN.{length}
+use Prim.Native.Nat.{ℕ, _*_, min}
+use Rattle.numbers.specs.Choice.{_=?_, pick}
 use Rattle.slices.specs.Parts.{zeros}
 use Rattle.model.specs.declared.ccw.Ccw.{Ccw}
-use Rattle.model.specs.declared.extent.Extent.{Extent}
+use Rattle.model.specs.declared.device.Device.{Device}
+use Rattle.model.specs.declared.record.Counts.{Counts}
 use Rattle.model.specs.declared.state.Before.the-variants.{Other, ReadIpl}
-use Rattle.model.specs.State.{State, Done}
 use Rattle.model.specs.Names.{write-check}
-use Rattle.numbers.specs.Choice.{_=?_, pick}
-use Rattle.model.specs.Log.{withSense, readCounted, writtenCounted, movementCounted}
-use Rattle.model.specs.Commands.{after, extentSet, ended, begun}
+use Rattle.model.specs.Parameters.{address}
+use Rattle.model.specs.Commands.{begun, wholeDevice}
+use Rattle.log.specs.Counts.{withRead, withWritten, withMovement}
+use Rattle.unit_state.specs.declared.Running.{Running}
+use Rattle.unit_state.specs.Standing.{wentOn, withExtent}
+use Rattle.endings.specs.declared.Ended.{Ended}
+use Rattle.endings.specs.Ending.{endOf}
+use Rattle.command_transfer.specs.declared.Move.{Move}
 
-unfoldable pub readDone : ℕ → State → ℕ → ℕ → Done
-readDone size s n can = ended (after s (readCounted (begun size n) (withSense (s .unit) (zeros 24))) Other) n can (begun size n)
+abbrev pub moveOf : Device → Ccw → Running → Move
+moveOf dev c s = record {
+  block = address (s .extent) (s .located .displacement);
+  can = s .located .blocks * dev .block;
+  n = min (c .count) (s .located .blocks * dev .block);
+}
 
-unfoldable pub writeDone : ℕ → State → ℕ → ℕ → Done
-writeDone size s n can =
-    let l = s .located in
-    let u = withSense (s .unit) (zeros 24) in
-    ended (after s (pick (l .operation =? write-check) (writtenCounted (l .blocks) u) u) Other) n can (begun size n)
+abbrev pub readEnd : Device → Ccw → Running → Move → Ended
+readEnd dev c s m = endOf c (wentOn s (withRead (begun dev (m .n)) (s .counts)) Other) (m .n) (m .can) (begun dev (m .n)) 0 (zeros 8)
 
-unfoldable pub wholeOf : ℕ → Extent
-wholeOf blocks = record { mask = 0; offset = record { 0 = 0 }; first = record { 0 = 0 }; last = record { 0 = blocks - 1 } }
+-- the counts after a WRITE of so many blocks: those of a write and check are counted
+unfoldable pub writtenBy : ℕ → ℕ → Counts → Counts
+writtenBy operation blocks k = pick (operation =? write-check) (withWritten blocks k) k
 
-unfoldable pub iplDone : ℕ → State → ℕ → ℕ → Done
-iplDone size s n blocks = ended (extentSet s (movementCounted (readCounted 1 (withSense (s .unit) (zeros 24)))) (wholeOf blocks) ReadIpl) n size 1
+abbrev pub writeEnd : Device → Ccw → Running → Move → Ended
+writeEnd dev c s m = endOf c (wentOn s (writtenBy (s .located .operation) (s .located .blocks) (s .counts)) Other) (m .n) (m .can) (begun dev (m .n)) 0 (zeros 8)
 
-pub record Sized (size : ℕ) (c : Ccw) (store : List ℕ) : Type 0 where
-  pub some : 1 ≤ size
-  pub small : size ≤ 65535
-  pub count : c .count < 65536
-  pub held : length store < 4294967296
+abbrev pub iplEnd : Device → Ccw → Running → ℕ → ℕ → Ended
+iplEnd dev c s n blocks = endOf c (withExtent s (withMovement (withRead 1 (s .counts))) (wholeDevice dev blocks) ReadIpl) n (dev .block) 1 0 (zeros 8)

@@ -1,40 +1,36 @@
-// READ, WRITE and READ IPL: the commands that move blocks. The block size is a parameter: nothing here knows 512.
+// READ, WRITE and READ IPL: the commands that move blocks. Each tests what stands before it, moves its blocks, and ends.
 use blocks::begun;
-use blocks::blocks_into;
-use blocks::blocks_to;
-use endings::Done;
-use endings::ended;
+use blocks::block_count;
+use blocks::read_blocks;
+use blocks::store_blocks;
+use endings::Ended;
+use endings::accept;
 use endings::refuse;
 use log::movement_counted;
 use log::read_counted;
 use log::written_counted;
 use model::ccw::Ccw;
+use model::device::Device;
 use model::extent::Displacement;
 use model::extent::Extent;
 use model::extent::Offset;
 use model::record::Counts;
 use model::state::Before;
+use slices::least;
 use unit_state::Running;
 use unit_state::after;
 use unit_state::extent_set;
 ghost use mathlib.Core.Path.{_≡_};
 ghost use mathlib.Core.Bool.{true};
-ghost use Prim.Native.Nat.{_+_, _*_, _≤_, _<_, min};
-ghost use lib.Dec.{eqb};
-ghost use lib.ListN.{length};
+ghost use Prim.Native.Nat.{_≤_, _<_};
 ghost use Rattle.model.specs.declared.record.Record.{Record};
-ghost use Rattle.numbers.specs.Choice.{pick};
-ghost use Rattle.model.specs.Rules.{firstOf};
-ghost use Rattle.model.specs.Lent.{blockCount};
-ghost use Rattle.model.specs.Parameters.{address, reads, writes};
-ghost use Rattle.model.specs.Causes.{a-locate, none-or-ipl, transferCauses, readIplCauses};
-ghost use Rattle.model.specs.Log.{writtenCounted};
-ghost use Rattle.model.specs.Commands.{decided, read, write, readIpl};
-ghost use Rattle.log.specs.Counts.{counted};
-ghost use Rattle.unit_state.specs.Standing.{stateOf, Secure};
-ghost use Rattle.endings.specs.Cleared.{cleared};
-ghost use Rattle.endings.specs.Report.{reported, report, outcome, outcomeOf};
-ghost use Rattle.command_transfer.specs.Transferred.{readDone, writeDone, wholeOf, iplDone, Sized};
+ghost use Rattle.model.specs.Names.{READ, WRITE, READ-IPL};
+ghost use Rattle.model.specs.Parameters.{reads, writes};
+ghost use Rattle.model.specs.Causes.{a-locate, none-or-ipl};
+ghost use Rattle.model.specs.Commands.{wholeDevice, performed};
+ghost use Rattle.unit_state.specs.Standing.{stateOf, Sound, Handed};
+ghost use Rattle.endings.specs.Ending.{Ends};
+ghost use Rattle.command_transfer.specs.Transferred.{moveOf, readEnd, writtenBy, writeEnd, iplEnd};
 
 // Directly before stood an accepted LOCATE.
 fn after_locate(before: Before) -> bool
@@ -86,35 +82,32 @@ pub struct Move {
 }
 
 // By the LOCATE before, the address rule and the count.
-fn located_move(size: usize, c: Ccw, s: Running, store: &[u8]) -> Move
-    requires { ⌜ Sized size c (now store) × Secure s (blockCount size (now store)) × (a-locate (s .before) ≡ true) ⌝ }
-    ensures { λ r. ⌜ (r .block ≡ address (s .extent) (s .located .displacement)) × (r .can ≡ s .located .blocks * size) × (r .n ≡ min (c .count) (s .located .blocks * size)) ⌝ }
+fn located_move(d: Device, c: Ccw, s: Running, store: &[u8]) -> Move
+    requires { ⌜ Sound d s (now store) × (a-locate (s .before) ≡ true) ⌝ }
+    ensures { λ r. ⌜ r ≡ moveOf d c s ⌝ }
 {
     let e = s.extent;
     let l = s.located;
-    let block = e.address(l.displacement) as usize;
-    let can = l.blocks * size;
+    let can = l.blocks * d.block;
     Move {
-        block: block,
+        block: e.address(l.displacement) as usize,
         can: can,
-        n: slices::least(c.count, can),
+        n: least(c.count, can),
     }
 }
 
-// The READ's answer and record, once its bytes are moved.
-fn read_done(size: usize, c: Ccw, s: Running, m: Move) -> Done
-    requires { ⌜ (1 ≤ size) × (size ≤ 65535) × (c .count < 65536) × (m .n ≤ c .count) ⌝ }
-    ensures { λ r. ⌜ ((u : Record) → reported u c r ≡ report c (readDone size (stateOf u s) (m .n) (m .can))) ⌝ }
+fn read_done(d: Device, c: Ccw, s: Running, m: Move) -> Ended
+    requires { ⌜ (1 ≤ d .block) × (d .block ≤ 65535) × (c .count < 65536) × (m .n ≤ c .count) ⌝ }
+    ensures { λ r. ⌜ r ≡ readEnd d c s m ⌝ }
 {
-    let blocks = begun(size, m.n);
-    let k = read_counted(blocks, s.counts);
-    let t = after(s, k, Before::Other);
-    ended(c, t, m.n, m.can, blocks)
+    let blocks = begun(d, m.n);
+    let t = after(s, read_counted(blocks, s.counts), Before::Other);
+    accept(c, t, m.n, m.can, blocks)
 }
 
-pub fn read(size: usize, c: Ccw, s: Running, main: &mut [u8], store: &[u8]) -> Done
-    requires { ⌜ Sized size c (now store) × Secure s (blockCount size (now store)) × (c .address + c .count ≤ length (now main)) ⌝ }
-    ensures { λ r. ⌜ ((u : Record) → outcome u c r (now (main .exit)) (now (store .entry)) ≡ outcomeOf c (decided c (stateOf u s) (now (main .entry)) (now (store .entry)) (firstOf (transferCauses reads (stateOf u s))) (read size c (cleared (stateOf u s)) (now (main .entry)) (now (store .entry))))) ⌝ }
+pub fn read(d: Device, c: Ccw, s: Running, main: &mut [u8], store: &[u8]) -> Ended
+    requires { ⌜ Sound d s (now store) × Handed c (now main) × (c .command ≡ READ) ⌝ }
+    ensures { λ r. ⌜ ((u : Record) → Ends u c s r (now (main .exit)) (now (store .entry)) (performed d c (stateOf u s) (now (main .entry)) (now (store .entry)))) ⌝ }
 {
     let before = s.before;
     let l = s.located;
@@ -124,15 +117,15 @@ pub fn read(size: usize, c: Ccw, s: Running, main: &mut [u8], store: &[u8]) -> D
     if !is_read(l.operation) {
         return refuse(c, s, 42);
     }
-    let m = located_move(size, c, s, store);
-    blocks_to(size, store, m.block, l.blocks, main, c.address, m.n);
-    read_done(size, c, s, m)
+    let m = located_move(d, c, s, store);
+    read_blocks(d, store, m.block, l.blocks, c, main, m.n);
+    read_done(d, c, s, m)
 }
 
-// The record after a WRITE of so many blocks: those of a write and check are counted.
+// The counts after a WRITE of so many blocks: those of a write and check are counted.
 fn written(operation: u32, blocks: usize, k: Counts) -> Counts
     requires { ⌜ blocks < 4294967296 ⌝ }
-    ensures { λ r. ⌜ ((u : Record) → counted u r ≡ pick (eqb operation 5) (writtenCounted blocks (counted u k)) (counted u k)) ⌝ }
+    ensures { λ r. ⌜ r ≡ writtenBy operation blocks k ⌝ }
 {
     if operation == 5 {
         return written_counted(blocks, k);
@@ -140,20 +133,18 @@ fn written(operation: u32, blocks: usize, k: Counts) -> Counts
     k
 }
 
-// The WRITE's answer and record, once its blocks are stored.
-fn write_done(size: usize, c: Ccw, s: Running, m: Move) -> Done
-    requires { ⌜ (1 ≤ size) × (size ≤ 65535) × (c .count < 65536) × (m .n ≤ c .count) × (s .located .blocks < 4294967296) ⌝ }
-    ensures { λ r. ⌜ ((u : Record) → reported u c r ≡ report c (writeDone size (stateOf u s) (m .n) (m .can))) ⌝ }
+fn write_done(d: Device, c: Ccw, s: Running, m: Move) -> Ended
+    requires { ⌜ (1 ≤ d .block) × (d .block ≤ 65535) × (c .count < 65536) × (m .n ≤ c .count) × (s .located .blocks < 4294967296) ⌝ }
+    ensures { λ r. ⌜ r ≡ writeEnd d c s m ⌝ }
 {
     let l = s.located;
-    let k = written(l.operation, l.blocks, s.counts);
-    let t = after(s, k, Before::Other);
-    ended(c, t, m.n, m.can, begun(size, m.n))
+    let t = after(s, written(l.operation, l.blocks, s.counts), Before::Other);
+    accept(c, t, m.n, m.can, begun(d, m.n))
 }
 
-pub fn write(size: usize, c: Ccw, s: Running, main: &[u8], store: &mut [u8]) -> Done
-    requires { ⌜ Sized size c (now store) × Secure s (blockCount size (now store)) × (c .address + c .count ≤ length (now main)) ⌝ }
-    ensures { λ r. ⌜ ((u : Record) → outcome u c r (now (main .entry)) (now (store .exit)) ≡ outcomeOf c (decided c (stateOf u s) (now (main .entry)) (now (store .entry)) (firstOf (transferCauses writes (stateOf u s))) (write size c (cleared (stateOf u s)) (now (main .entry)) (now (store .entry))))) ⌝ }
+pub fn write(d: Device, c: Ccw, s: Running, main: &[u8], store: &mut [u8]) -> Ended
+    requires { ⌜ Sound d s (now store) × Handed c (now main) × (c .command ≡ WRITE) ⌝ }
+    ensures { λ r. ⌜ ((u : Record) → Ends u c s r (now (main .entry)) (now (store .exit)) (performed d c (stateOf u s) (now (main .entry)) (now (store .entry)))) ⌝ }
 {
     let before = s.before;
     let l = s.located;
@@ -163,17 +154,15 @@ pub fn write(size: usize, c: Ccw, s: Running, main: &[u8], store: &mut [u8]) -> 
     if !is_write(l.operation) {
         return refuse(c, s, 42);
     }
-    let m = located_move(size, c, s, store);
-    let at = c.address;
-    let end = at + m.n;
-    blocks_into(size, store, m.block, l.blocks, &main[at..end]);
-    write_done(size, c, s, m)
+    let m = located_move(d, c, s, store);
+    store_blocks(d, store, m.block, l.blocks, c, main, m.n);
+    write_done(d, c, s, m)
 }
 
-// The extent that READ IPL sets.
-fn whole_device(blocks: usize) -> Extent
-    requires { ⌜ (1 ≤ blocks) × (blocks < 4294967296) ⌝ }
-    ensures { λ r. ⌜ r ≡ wholeOf blocks ⌝ }
+// The extent that READ IPL sets, over a device of so many blocks.
+fn whole_device(d: Device, blocks: usize) -> Extent
+    requires { ⌜ (1 ≤ blocks) × (blocks ≤ 131072) ⌝ }
+    ensures { λ r. ⌜ r ≡ wholeDevice d blocks ⌝ }
 {
     Extent {
         mask: 0,
@@ -183,25 +172,24 @@ fn whole_device(blocks: usize) -> Extent
     }
 }
 
-// The READ IPL's answer and record, once its bytes are moved.
-fn ipl_done(size: usize, c: Ccw, s: Running, n: usize, blocks: usize) -> Done
-    requires { ⌜ (1 ≤ blocks) × (blocks < 4294967296) × (c .count < 65536) × (n ≤ c .count) ⌝ }
-    ensures { λ r. ⌜ ((u : Record) → reported u c r ≡ report c (iplDone size (stateOf u s) n blocks)) ⌝ }
+fn ipl_done(d: Device, c: Ccw, s: Running, n: usize, blocks: usize) -> Ended
+    requires { ⌜ (1 ≤ blocks) × (blocks ≤ 131072) × (c .count < 65536) × (n ≤ c .count) ⌝ }
+    ensures { λ r. ⌜ r ≡ iplEnd d c s n blocks ⌝ }
 {
     let k = movement_counted(read_counted(1, s.counts));
-    let t = extent_set(s, k, whole_device(blocks), Before::ReadIpl);
-    ended(c, t, n, size, 1)
+    let t = extent_set(s, k, whole_device(d, blocks), Before::ReadIpl);
+    accept(c, t, n, d.block, 1)
 }
 
-pub fn read_ipl(size: usize, c: Ccw, s: Running, main: &mut [u8], store: &[u8]) -> Done
-    requires { ⌜ Sized size c (now store) × (1 ≤ blockCount size (now store)) × (c .address + c .count ≤ length (now main)) ⌝ }
-    ensures { λ r. ⌜ ((u : Record) → outcome u c r (now (main .exit)) (now (store .entry)) ≡ outcomeOf c (decided c (stateOf u s) (now (main .entry)) (now (store .entry)) (firstOf (readIplCauses (stateOf u s))) (readIpl size c (cleared (stateOf u s)) (now (main .entry)) (now (store .entry))))) ⌝ }
+pub fn read_ipl(d: Device, c: Ccw, s: Running, main: &mut [u8], store: &[u8]) -> Ended
+    requires { ⌜ Sound d s (now store) × Handed c (now main) × (c .command ≡ READ-IPL) ⌝ }
+    ensures { λ r. ⌜ ((u : Record) → Ends u c s r (now (main .exit)) (now (store .entry)) (performed d c (stateOf u s) (now (main .entry)) (now (store .entry)))) ⌝ }
 {
     let before = s.before;
     if !none_or_ipl(before) {
         return refuse(c, s, 40);
     }
-    let n = slices::least(c.count, size);
-    blocks_to(size, store, 0, 1, main, c.address, n);
-    ipl_done(size, c, s, n, store.len() / size)
+    let n = least(c.count, d.block);
+    read_blocks(d, store, 0, 1, c, main, n);
+    ipl_done(d, c, s, n, block_count(d, store))
 }

@@ -1,23 +1,58 @@
--- The eight bytes of an answer, made as one number. No contract cites this file.
-use Prim.Native.Nat.{ℕ, _+_, _*_, _/_, _%_, _<_}
-use mathlib.Core.Path.{_≡_}
+-- The bytes of an answer, from the two numbers that the code makes. No contract cites this file.
+--     answer-bytes   what is put is the definition's answer
+use Prim.Native.Nat.{ℕ, _+_, _-_, _*_, _/_, _%_, _<_}
+use mathlib.Core.Path.{_≡_, refl, ap, _∙_}
+use mathlib.Core.Bool.{Bool, true, false}
+use mathlib.Core.List.{List, [], _∷_, _++_}
 use native.Mathlib.Omega.{arith}
-use Rattle.numbers.specs.Big.{bytes8}
-use Rattle.endings.specs.Report.{eight}
+use Rattle.numbers.specs.Big.{bytes2, bytes4}
+use Rattle.model.specs.declared.ccw.Ccw.{Ccw}
+use Rattle.model.specs.declared.kind.Kind.{Kind}
+use Rattle.model.specs.declared.kind.Kind.the-variants.{Accepted, ProgramCheck, UnitCheck}
+use Rattle.model.specs.State.{Done}
+use Rattle.model.specs.Causes.{kindOf}
+use Rattle.model.specs.Answer.{unitStatus, channelBy, wrongLength, channelStatus, residual, answerOf}
+use Rattle.model.proofs.Leaving.{status-byte, channel-byte}
+use Rattle.endings.specs.Ending.{answerWords, answerBytes, marked, wrongBy}
 
--- the number, as the code makes it
-abbrev whole : ℕ → ℕ → ℕ → ℕ → ℕ → ℕ
-whole u c r k b = ((u * 256 + c) * 65536 + r) * 4294967296 + (k * 16777216 + b)
+front-bytes : (u c r : ℕ) → u < 256 → c < 256 → r < 65536 → bytes4 ((u * 256 + c) * 65536 + r) ≡ (u ∷ c ∷ []) ++ bytes2 r
+front-bytes u c r hu hc hr =
+    let n : ℕ = (u * 256 + c) * 65536 + r in
+    let e₀ : n / 16777216 % 256 ≡ u = omega (arith, hu, hc, hr) in
+    let e₁ : n / 65536 % 256 ≡ c = omega (arith, hu, hc, hr) in
+    let e₂ : n / 256 % 256 ≡ r / 256 % 256 = omega (arith, hu, hc, hr) in
+    let e₃ : n % 256 ≡ r % 256 = omega (arith, hu, hc, hr) in
+    rw (e₀, e₁, e₂, e₃)
 
-pub number-bytes : (u c r k b : ℕ) → u < 256 → c < 256 → r < 65536 → k < 256 → b < 65536 → bytes8 (whole u c r k b) ≡ eight u c r k b
-number-bytes u c r k b hu hc hr hk hb =
-    let n = whole u c r k b in
-    let e₀ : n / 0x100000000000000 ≡ u = omega (arith, hu, hc, hr, hk, hb) in
-    let e₁ : n / 0x1000000000000 % 256 ≡ c = omega (arith, hu, hc, hr, hk, hb) in
-    let e₂ : n / 0x10000000000 % 256 ≡ r / 256 % 256 = omega (arith, hu, hc, hr, hk, hb) in
-    let e₃ : n / 4294967296 % 256 ≡ r % 256 = omega (arith, hu, hc, hr, hk, hb) in
-    let e₄ : n / 16777216 % 256 ≡ k = omega (arith, hu, hc, hr, hk, hb) in
-    let e₅ : n / 65536 % 256 ≡ 0 = omega (arith, hu, hc, hr, hk, hb) in
-    let e₆ : n / 256 % 256 ≡ b / 256 % 256 = omega (arith, hu, hc, hr, hk, hb) in
-    let e₇ : n % 256 ≡ b % 256 = omega (arith, hu, hc, hr, hk, hb) in
-    rw (e₀, e₁, e₂, e₃, e₄, e₅, e₆, e₇)
+back-bytes : (w b : ℕ) → w < 256 → b < 65536 → bytes4 (w * 16777216 + b) ≡ (w ∷ 0 ∷ []) ++ bytes2 b
+back-bytes w b hw hb =
+    let n : ℕ = w * 16777216 + b in
+    let e₀ : n / 16777216 % 256 ≡ w = omega (arith, hw, hb) in
+    let e₁ : n / 65536 % 256 ≡ 0 = omega (arith, hw, hb) in
+    let e₂ : n / 256 % 256 ≡ b / 256 % 256 = omega (arith, hw, hb) in
+    let e₃ : n % 256 ≡ b % 256 = omega (arith, hw, hb) in
+    rw (e₀, e₁, e₂, e₃)
+
+-- the channel's status is 00 before a wrong length is marked
+by-kind : (k : Kind) (c : Ccw) (can : ℕ) (rest : List ℕ) → marked (wrongBy k c can) (unitStatus k ∷ channelBy k false ∷ rest) ≡ unitStatus k ∷ channelBy k (wrongLength c can) ∷ rest
+by-kind Accepted c can rest = go (wrongLength c can)
+  where
+    go : (wrong : Bool) → marked wrong (unitStatus Accepted ∷ channelBy Accepted false ∷ rest) ≡ unitStatus Accepted ∷ channelBy Accepted wrong ∷ rest
+    go true = refl
+    go false = refl
+by-kind ProgramCheck c can rest = refl
+by-kind UnitCheck c can rest = refl
+
+words-bytes : (k : Kind) (left w b : ℕ) → left < 65536 → w < 256 → b < 65536
+    → answerBytes (answerWords k left w b) ≡ (unitStatus k ∷ channelBy k false ∷ []) ++ bytes2 left ++ ((w ∷ 0 ∷ []) ++ bytes2 b)
+words-bytes k left w b hl hw hb =
+    ap (λ (x : List ℕ). x ++ bytes4 (w * 16777216 + b)) (front-bytes (unitStatus k) (channelBy k false) left (status-byte k) (channel-byte k false) hl)
+    ∙ ap (λ (x : List ℕ). (unitStatus k ∷ channelBy k false ∷ []) ++ bytes2 left ++ x) (back-bytes w b hw hb)
+
+pub answer-bytes : (c : Ccw) (d : Done) → c .count < 65536 → d .cause < 256 → d .blocks < 65536
+    → marked (wrongBy (kindOf (d .cause)) c (d .can)) (answerBytes (answerWords (kindOf (d .cause)) (residual c d) (d .cause) (d .blocks))) ≡ answerOf c d
+unfolding answerOf channelStatus residual
+answer-bytes c d hc hw hb =
+    let k : Kind = kindOf (d .cause) in
+    ap (marked (wrongBy k c (d .can))) (words-bytes k (c .count - d .moved) (d .cause) (d .blocks) (omega arith) hw hb)
+    ∙ by-kind k c (d .can) (bytes2 (c .count - d .moved) ++ ((d .cause ∷ 0 ∷ []) ++ bytes2 (d .blocks)))

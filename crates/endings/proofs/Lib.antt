@@ -1,3 +1,2 @@
-pub mod Deciding
+pub mod Ends
 pub mod Answers
-pub mod Reports

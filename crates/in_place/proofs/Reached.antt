@@ -9,18 +9,18 @@ use borrow.Author.Tests.{eqb-true, eqb-false}
 use Rattle.model.specs.declared.record.Record.{Record}
 use Rattle.model.specs.Rules.{firstOf}
 use Rattle.model.specs.Causes.{callCauses}
-use Rattle.model.specs.Chain.{Called, call}
+use Rattle.model.specs.Chain.{Called, call, classA}
 use Rattle.model.specs.Host.{resultOf}
 use Rattle.model.proofs.Refusals.{call-refused}
 use Rattle.model.proofs.Endings.{callable, call-reached}
 use Rattle.in_place.specs.Run.{given, outcome}
 
 few-reached : (chain main store : List ℕ) (u : Record) (answers : List ℕ) → call chain main store u answers .reached ≤ 32
-few-reached chain main store u answers = go (eqb (firstOf (callCauses 512 chain main store answers)) 0) refl
+few-reached chain main store u answers = go (eqb (firstOf (callCauses classA chain main store answers)) 0) refl
   where
-    go : (b : Bool) → eqb (firstOf (callCauses 512 chain main store answers)) 0 ≡ b → call chain main store u answers .reached ≤ 32
-    go true e = omega (arith, callable 512 chain main store answers (eqb-true _ _ e) .few, call-reached 512 chain main store u answers .1)
-    go false e = rw (call-refused 512 chain main store u answers _ refl (eqb-false _ _ e)) (omega arith)
+    go : (b : Bool) → eqb (firstOf (callCauses classA chain main store answers)) 0 ≡ b → call chain main store u answers .reached ≤ 32
+    go true e = omega (arith, callable classA chain main store answers (eqb-true _ _ e) .few, call-reached classA chain main store u answers .1)
+    go false e = rw (call-refused classA chain main store u answers _ refl (eqb-false _ _ e)) (omega arith)
 
 pub reached-few : (chain main store : List ℕ) (u : Record) (answers : List ℕ) (c : Called) → c ≡ call chain main store u answers → c .reached ≤ 32
 reached-few chain main store u answers c e = rw e (few-reached chain main store u answers)

@@ -1,7 +1,7 @@
 -- A promise determines its result: two results that it allows are equal. One theorem for each form that a promise takes.
 --     same-by         a result that is named, `r ≡ f x`: most functions, and the call with every buffer in one record
 --     told-unique     a test that is true exactly where a fact holds
---     outcome-unique  a command's report with the two storages, `outcome u c r main store ≡ ..`: what the result stands for
+--     ends-unique     a command's ending with the two storages, `Ends u c s r main store ..`
 --     defined-unique, location-unique   an answer that is known by its number
 --     status-unique, channel-unique     a status that is known by its byte
 --     after-unique, made-unique         the run, by value and in place
@@ -13,17 +13,26 @@ use mathlib.Core.List.{List}
 use lib.Dec.{eqb}
 use Rattle.model.specs.declared.ccw.Ccw.{Ccw}
 use Rattle.model.specs.declared.record.Record.{Record}
+use Rattle.model.specs.Log.{withCounts}
 use Rattle.model.specs.declared.status.Status.{Status}
 use Rattle.model.specs.declared.status.Channel.{Channel}
-use Rattle.numbers.specs.Choice.{pick}
+use borrow.Author.Tests.{eqb-true, eqb-false}
+use Rattle.numbers.specs.Choice.{_=?_, pick}
 use Rattle.command_extent.specs.declared.Defined.{Defined}
 use Rattle.command_extent.specs.declared.Defined.the-variants.{Taken, BadMask, Maintenance, BadSize, FirstAfterLast, PastDevice}
 use Rattle.command_locate.specs.declared.Location.{Location}
 use Rattle.command_locate.specs.declared.Location.the-variants.{Found, BadModifier, BadOperation, BadCount, BadReplication, OutsideExtent, Forbidden, ReadOnly, NoAlternate}
 use Rattle.command_extent.specs.Answers.{definedNumber}
 use Rattle.command_locate.specs.Answers.{locationNumber}
-use Rattle.endings.specs.declared.Done.{Done}
-use Rattle.endings.specs.Report.{reported, Outcome, outcome}
+use Rattle.model.specs.Commands.{Out}
+use Rattle.log.specs.Counts.{counted}
+use Rattle.unit_state.specs.declared.Running.{Running}
+use Rattle.unit_state.specs.Standing.{unitOf, stateOf}
+use Rattle.endings.specs.declared.Ended.{Ended}
+use Rattle.unit_state.specs.declared.Left.{Left}
+use Rattle.endings.specs.Ending.{shown, Leaves, Ends}
+use Rattle.model.specs.Lent.{fetched}
+use Rattle.model.specs.Parameters.{locateLength}
 use Rattle.in_place.specs.declared.Ran.{Ran}
 use Rattle.in_place.specs.Run as lending
 use Rattle.in_place.specs.Run.{After, Made}
@@ -37,16 +46,51 @@ told-unique P true false f g = sym (g .1 (f .0 refl))
 told-unique P false true f g = f .1 (g .0 refl)
 told-unique P false false f g = refl
 
-pub record SameOutcome (u : Record) (c : Ccw) (d e : Done) (main main′ store store′ : List ℕ) : Type 0 where
-  pub report-same : reported u c d ≡ reported u c e
+-- what is carried is known by the state that it stands for, and by whether the sense is still as found
+same-running : (u : Record) (s t : Running) → s .kept ≡ t .kept → stateOf u s ≡ stateOf u t → s ≡ t
+unfolding stateOf unitOf counted withCounts
+same-running u s t k e = λ i. record {
+  kept = k i;
+  defined = e i .defined;
+  before = e i .before;
+  counts = record { «blocks_read» = e i .unit .«blocks_read»; «blocks_written» = e i .unit .«blocks_written»; movements = e i .unit .movements };
+  extent = e i .extent;
+  located = e i .located;
+}
+
+-- what a command leaves carries the state that it left, or, where it was refused, the one that it found
+carried : (u : Record) (c : Ccw) (s : Running) (l m : Left) (o : Out) → Leaves u c s l o → Leaves u c s m o → l .state ≡ m .state
+carried u c s l m o p q = go (o .done .cause =? 0) refl
+  where
+    go : (b : Bool) → o .done .cause =? 0 ≡ b → l .state ≡ m .state
+    go true e =
+        let z = eqb-true _ _ e in
+        let f = p .cause ∙ z in
+        let g = q .cause ∙ z in
+        same-running u (l .state) (m .state) (p .kept f ∙ sym (q .kept g)) (rw f at (p .state) ∙ sym (rw g at (q .state)))
+    go false e =
+        let n = eqb-false _ _ e in
+        p .refused (λ z. n (sym (p .cause) ∙ z)) ∙ sym (q .refused (λ z. n (sym (q .cause) ∙ z)))
+
+-- the ending of a command: the state, the cause, the parameters beside it, the answer, the wrong length, and both storages
+pub record SameEnding (d e : Ended) (main main′ store store′ : List ℕ) : Type 0 where
+  pub ended : d ≡ e
   pub main-same : main ≡ main′
   pub store-same : store ≡ store′
 
-pub outcome-unique : (o : Outcome) (u : Record) (c : Ccw) (d e : Done) (main main′ store store′ : List ℕ)
-    → outcome u c d main store ≡ o → outcome u c e main′ store′ ≡ o → SameOutcome u c d e main main′ store store′
-outcome-unique o u c d e main main′ store store′ p q =
-    let r = p ∙ sym q in
-    record { report-same = ap (λ (x : Outcome). x .report) r; main-same = ap (λ (x : Outcome). x .main) r; store-same = ap (λ (x : Outcome). x .store) r }
+pub ends-unique : (o : Out) (u : Record) (c : Ccw) (s : Running) (d e : Ended) (main main′ store store′ : List ℕ) → Ends u c s d main store o → Ends u c s e main′ store′ o
+    → SameEnding d e main main′ store store′
+ends-unique o u c s d e main main′ store store′ p q =
+    let cause = p .left .cause ∙ sym (q .left .cause) in
+    let parameters = p .left .parameters ∙ ap (λ (w : ℕ). shown w (fetched c (o .main) locateLength)) cause ∙ sym (q .left .parameters) in
+    let state = carried u c s (d .left) (e .left) o (p .left) (q .left) in
+    let answer = p .answer ∙ sym (q .answer) in
+    let wrong = p .wrong ∙ sym (q .wrong) in
+    record {
+      ended = λ i. record { left = record { state = state i; parameters = parameters i; cause = cause i }; answer = answer i; wrong = wrong i };
+      main-same = p .main-same ∙ sym (q .main-same);
+      store-same = p .store-same ∙ sym (q .store-same);
+    }
 
 pub status-unique : (n : ℕ) (a b : Status) → a .0 ≡ n → b .0 ≡ n → a ≡ b
 status-unique n a b p q = λ i. record { 0 = same-by (a .0) (b .0) n p q i }

@@ -10,8 +10,8 @@ use slices::put_at;
 ghost use mathlib.Core.Path.{_≡_};
 ghost use Prim.Native.Nat.{_<_};
 ghost use Rattle.model.specs.declared.record.Record.{Record};
-ghost use Rattle.model.specs.Log.{added3, added2, readCounted, writtenCounted, movementCounted, logOf, logReset};
-ghost use Rattle.log.specs.Counts.{counted};
+ghost use Rattle.model.specs.Log.{added3, added2, logOf};
+ghost use Rattle.log.specs.Counts.{counted, withRead, withWritten, withMovement, noCounts};
 
 // A count of 3 bytes with n added; it stops at the largest number that they hold.
 fn added3(count: [u8; 3], n: usize) -> [u8; 3]
@@ -32,7 +32,7 @@ fn added2(count: [u8; 2], n: usize) -> [u8; 2]
 // n blocks were read.
 pub fn read_counted(n: usize, k: Counts) -> Counts
     requires { ⌜ n < 4294967296 ⌝ }
-    ensures { λ r. ⌜ ((u : Record) → counted u r ≡ readCounted n (counted u k)) ⌝ }
+    ensures { λ r. ⌜ r ≡ withRead n k ⌝ }
 {
     let count = k.blocks_read;
     let more = added3(count, n);
@@ -44,7 +44,7 @@ pub fn read_counted(n: usize, k: Counts) -> Counts
 // n blocks were written with check.
 pub fn written_counted(n: usize, k: Counts) -> Counts
     requires { ⌜ n < 4294967296 ⌝ }
-    ensures { λ r. ⌜ ((u : Record) → counted u r ≡ writtenCounted n (counted u k)) ⌝ }
+    ensures { λ r. ⌜ r ≡ withWritten n k ⌝ }
 {
     let count = k.blocks_written;
     let more = added3(count, n);
@@ -55,7 +55,7 @@ pub fn written_counted(n: usize, k: Counts) -> Counts
 
 // The access mechanism moved once.
 pub fn movement_counted(k: Counts) -> Counts
-    ensures { λ r. ⌜ ((u : Record) → counted u r ≡ movementCounted (counted u k)) ⌝ }
+    ensures { λ r. ⌜ r ≡ withMovement k ⌝ }
 {
     let count = k.movements;
     let more = added2(count, 1);
@@ -66,7 +66,7 @@ pub fn movement_counted(k: Counts) -> Counts
 
 // The counts once they were sent: they begin again.
 pub fn none_counted() -> Counts
-    ensures { λ r. ⌜ ((u : Record) → counted u r ≡ logReset u) ⌝ }
+    ensures { λ r. ⌜ r ≡ noCounts ⌝ }
 {
     Counts {
         blocks_read: [0u8; 3],

@@ -41,4 +41,4 @@ module _ (chain storage store unit answers : List ℕ) where
       rw (b, host-is-call classA chain storage store unit answers l, ← e, ← number) (ap hosted h)
 
   pub few-hosted : (u : Record) (c : Called) → firstOf (callCauses classA chain storage store answers) ≡ 0 → c ≡ call chain storage store u answers → c .reached ≤ 32
-  few-hosted u c e h = rw h (omega (arith, callable 512 chain storage store answers e .few, call-reached 512 chain storage store u answers .1))
+  few-hosted u c e h = rw h (omega (arith, callable classA chain storage store answers e .few, call-reached classA chain storage store u answers .1))

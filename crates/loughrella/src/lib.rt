@@ -1,16 +1,14 @@
 // What C calls: a chain run, and a unit record set up. include/loughrella.h says it to a C programmer. Neither has a
 // requires: any slices get the result, and are left with the bytes, that the definition says.
-use chain::call::BLOCK_SIZE;
+use chain::call::cause_of;
 use chain::call::run_allowed;
-use channel::causes::call_cause;
-use layout::new_record;
-use layout::pack;
-use layout::unpack;
-use packing::pack_left;
+use record::RECORD_SIZE;
+use record::new_record;
+use record::pack;
+use record::pack_left;
+use record::unpack;
 ghost use mathlib.Core.Path.{_≡_};
 ghost use Rattle.model.specs.Host.{hostCall, setUp};
-
-const RECORD_SIZE: usize = 34;
 
 // The chain is run. 256 times the cause plus the commands reached.
 #[no_mangle]
@@ -23,7 +21,7 @@ pub extern "C" fn loughrella_run(
 ) -> u32
     ensures { λ r. ⌜ record { result = r; main = now (storage .exit); store = now (store .exit); unit = now (unit .exit); answers = now (answers .exit) } ≡ hostCall (now (chain .entry)) (now (storage .entry)) (now (store .entry)) (now (unit .entry)) (now (answers .entry)) ⌝ }
 {
-    let cause = call_cause(BLOCK_SIZE, chain, storage, store, answers);
+    let cause = cause_of(chain, storage, store, answers);
     if cause != 0 {
         return cause as u32 * 256;
     }

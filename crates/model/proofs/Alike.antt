@@ -21,6 +21,7 @@ use Rattle.model.specs.declared.extent.Extent.{Extent}
 use Rattle.model.specs.declared.extent.Located.{Located}
 use Rattle.model.specs.declared.record.Record.{Record}
 use Rattle.model.specs.declared.state.Before.{Before}
+use Rattle.model.specs.declared.device.Device.{Device}
 use Rattle.model.specs.State.{State, Done}
 use Rattle.model.specs.Lent.{fetched, blockCount, blockAt, blocksFrom, blocksInto}
 use Rattle.model.specs.Parameters.{extentLength, extentIn, address}
@@ -44,13 +45,13 @@ pub record Place : Type 0 where
   pub store′ : List ℕ
 
 -- what holds of a place throughout
-pub record Sound (size : ℕ) (F : Place) : Type 0 where
+pub record Sound (dev : Device) (F : Place) : Type 0 where
   pub mask : F .here .mask ≡ F .there .mask
   pub first : F .here .first ≡ F .there .first
   pub last : F .here .last ≡ F .there .last
   pub sizes : length (F .store) ≡ length (F .store′)
-  pub room : HasRoom size (F .here) (F .store)
-  pub room′ : HasRoom size (F .there) (F .store′)
+  pub room : HasRoom dev (F .here) (F .store)
+  pub room′ : HasRoom dev (F .there) (F .store′)
 
 pub record States (F : Place) (s t : State) : Type 0 where
   pub unit : s .unit ≡ t .unit
@@ -67,12 +68,12 @@ pub record Mains (F : Place) (m n : List ℕ) : Type 0 where
   pub here : extentIn (part m (F .at) extentLength) ≡ F .here
   pub there : extentIn (part n (F .at) extentLength) ≡ F .there
 
-pub record Stores (size : ℕ) (F : Place) (x y : List ℕ) : Type 0 where
+pub record Stores (dev : Device) (F : Place) (x y : List ℕ) : Type 0 where
   pub long : length x ≡ length (F .store)
   pub long′ : length y ≡ length (F .store′)
-  pub same : SameData size (F .here) (F .there) x y
-  pub kept : KeptOutside size (F .here) (F .store) x
-  pub kept′ : KeptOutside size (F .there) (F .store′) y
+  pub same : SameData dev (F .here) (F .there) x y
+  pub kept : KeptOutside dev (F .here) (F .store) x
+  pub kept′ : KeptOutside dev (F .there) (F .store′) y
 
 pub record Dones (F : Place) (d e : Done) : Type 0 where
   pub cause : d .cause ≡ e .cause
@@ -81,10 +82,10 @@ pub record Dones (F : Place) (d e : Done) : Type 0 where
   pub blocks : d .blocks ≡ e .blocks
   pub states : States F (d .state) (e .state)
 
-pub record Outs (size : ℕ) (F : Place) (o p : Out) : Type 0 where
+pub record Outs (dev : Device) (F : Place) (o p : Out) : Type 0 where
   pub dones : Dones F (o .done) (p .done)
   pub mains : Mains F (o .main) (p .main)
-  pub stores : Stores size F (o .store) (p .store)
+  pub stores : Stores dev F (o .store) (p .store)
 
 -- the state
 
@@ -125,68 +126,68 @@ mains-put F m m′ a bytes h d g =
 
 -- the store
 
-pub count-same : (size : ℕ) (x y : List ℕ) → length x ≡ length y → blockCount size x ≡ blockCount size y
+pub count-same : (dev : Device) (x y : List ℕ) → length x ≡ length y → blockCount dev x ≡ blockCount dev y
 unfolding blockCount
-count-same size x y e = rw e
+count-same dev x y e = rw e
 
 -- where the blocks of a LOCATE lie in an extent of the device
-record Lies (size : ℕ) (e : Extent) (l : Located) (x : List ℕ) (k : ℕ) : Type 0 where
+record Lies (dev : Device) (e : Extent) (l : Located) (x : List ℕ) (k : ℕ) : Type 0 where
   pub base : (i : ℕ) → address e (l .displacement) + i ≡ e .offset .0 + (k + i)
   pub within : k + l .blocks ≤ e .last .0 - e .first .0 + 1
-  pub fits : (address e (l .displacement) + l .blocks) * size ≤ length x
+  pub fits : (address e (l .displacement) + l .blocks) * dev .block ≤ length x
 
-lies : (size : ℕ) (e : Extent) (l : Located) (x : List ℕ) (k : ℕ) → k ≡ l .displacement .0 - e .first .0 → InExtent e l → HasRoom size e x → Lies size e l x k
+lies : (dev : Device) (e : Extent) (l : Located) (x : List ℕ) (k : ℕ) → k ≡ l .displacement .0 - e .first .0 → InExtent e l → HasRoom dev e x → Lies dev e l x k
 unfolding address
-lies size e l x k f h r = record {
+lies dev e l x k f h r = record {
   base = λ i. omega (arith, f);
   within = omega (arith, f, h .from-first, h .to-last);
-  fits = in-store size x _ (omega (arith, h .from-first, h .to-last, h .some));
+  fits = in-store dev x _ (omega (arith, h .from-first, h .to-last, h .some));
 }
 
 -- blocks written over an extent's own leave those outside it
-kept-write : (size : ℕ) (e : Extent) (l : Located) (store x bytes : List ℕ) (k : ℕ) → Lies size e l x k → KeptOutside size e store x → KeptOutside size e store (blocksInto size x (address e (l .displacement)) (l .blocks) bytes)
-kept-write size e l store x bytes k h o n d =
+kept-write : (dev : Device) (e : Extent) (l : Located) (store x bytes : List ℕ) (k : ℕ) → Lies dev e l x k → KeptOutside dev e store x → KeptOutside dev e store (blocksInto dev x (address e (l .displacement)) (l .blocks) bytes)
+kept-write dev e l store x bytes k h o n d =
     let b = h .base 0 in
-    block-kept size x _ (l .blocks) bytes n (h .fits) (⊎-elim (λ y. inl (omega (arith, b))) (λ y. inr (omega (arith, b, h .within))) d) ∙ o n d
+    block-kept dev x _ (l .blocks) bytes n (h .fits) (⊎-elim (λ y. inl (omega (arith, b))) (λ y. inr (omega (arith, b, h .within))) d) ∙ o n d
 
-module _ (size : ℕ) (F : Place) (k : Sound size F) (l : Located) (x y : List ℕ) (h : InExtent (F .here) l) (g : Stores size F x y) where
+module _ (dev : Device) (F : Place) (k : Sound dev F) (l : Located) (x y : List ℕ) (h : InExtent (F .here) l) (g : Stores dev F x y) where
   h′ : InExtent (F .there) l
   h′ = record { some = h .some; from-first = rw (← (k .first)) (h .from-first); to-last = rw (← (k .last)) (h .to-last) }
 
   from : ℕ
   from = l .displacement .0 - F .here .first .0
 
-  lies-here : Lies size (F .here) l x from
+  lies-here : Lies dev (F .here) l x from
   unfolding from
-  lies-here = lies size (F .here) l x from refl h (rw (count-same size x (F .store) (g .long)) (k .room))
+  lies-here = lies dev (F .here) l x from refl h (rw (count-same dev x (F .store) (g .long)) (k .room))
 
-  lies-there : Lies size (F .there) l y from
+  lies-there : Lies dev (F .there) l y from
   unfolding from
   lies-there =
-      let room : HasRoom size (F .there) y = rw (count-same size y (F .store′) (g .long′)) (k .room′) in
-      lies size (F .there) l y from (ap (λ (d : Displacement). l .displacement .0 - d .0) (k .first)) h′ room
+      let room : HasRoom dev (F .there) y = rw (count-same dev y (F .store′) (g .long′)) (k .room′) in
+      lies dev (F .there) l y from (ap (λ (d : Displacement). l .displacement .0 - d .0) (k .first)) h′ room
 
-  pub stores-read : blocksFrom size x (address (F .here) (l .displacement)) (l .blocks) ≡ blocksFrom size y (address (F .there) (l .displacement)) (l .blocks)
-  stores-read = blocks-from-same size x y _ _ (l .blocks) (λ i b. rw (lies-here .base i, lies-there .base i) (g .same (from + i) (omega (arith, lies-here .within))))
+  pub stores-read : blocksFrom dev x (address (F .here) (l .displacement)) (l .blocks) ≡ blocksFrom dev y (address (F .there) (l .displacement)) (l .blocks)
+  stores-read = blocks-from-same dev x y _ _ (l .blocks) (λ i b. rw (lies-here .base i, lies-there .base i) (g .same (from + i) (omega (arith, lies-here .within))))
 
-  pub stores-write : (bytes : List ℕ) → Stores size F (blocksInto size x (address (F .here) (l .displacement)) (l .blocks) bytes) (blocksInto size y (address (F .there) (l .displacement)) (l .blocks) bytes)
+  pub stores-write : (bytes : List ℕ) → Stores dev F (blocksInto dev x (address (F .here) (l .displacement)) (l .blocks) bytes) (blocksInto dev y (address (F .there) (l .displacement)) (l .blocks) bytes)
   stores-write bytes =
       let a : ℕ = address (F .here) (l .displacement) in
       let b : ℕ = address (F .there) (l .displacement) in
       record {
-        long = blocks-into-length size x a (l .blocks) bytes (lies-here .fits) ∙ g .long;
-        long′ = blocks-into-length size y b (l .blocks) bytes (lies-there .fits) ∙ g .long′;
+        long = blocks-into-length dev x a (l .blocks) bytes (lies-here .fits) ∙ g .long;
+        long′ = blocks-into-length dev y b (l .blocks) bytes (lies-there .fits) ∙ g .long′;
         same = λ i d.
-            let Q : Type 0 = blockAt size (blocksInto size x a (l .blocks) bytes) (F .here .offset .0 + i) ≡ blockAt size (blocksInto size y b (l .blocks) bytes) (F .there .offset .0 + i) in
+            let Q : Type 0 = blockAt dev (blocksInto dev x a (l .blocks) bytes) (F .here .offset .0 + i) ≡ blockAt dev (blocksInto dev y b (l .blocks) bytes) (F .there .offset .0 + i) in
             let a0 = lies-here .base 0 in
             let b0 = lies-there .base 0 in
             let other : (i < from) ⊎ (from + l .blocks ≤ i) → Q = λ w.
-            block-kept size x a (l .blocks) bytes _ (lies-here .fits) (⊎-elim (λ z. inl (omega (arith, a0))) (λ z. inr (omega (arith, a0))) w)
+            block-kept dev x a (l .blocks) bytes _ (lies-here .fits) (⊎-elim (λ z. inl (omega (arith, a0))) (λ z. inr (omega (arith, a0))) w)
             ∙ g .same i d
-            ∙ sym (block-kept size y b (l .blocks) bytes _ (lies-there .fits) (⊎-elim (λ z. inl (omega (arith, b0))) (λ z. inr (omega (arith, b0))) w)) in
+            ∙ sym (block-kept dev y b (l .blocks) bytes _ (lies-there .fits) (⊎-elim (λ z. inl (omega (arith, b0))) (λ z. inr (omega (arith, b0))) w)) in
             by-place Q i from (l .blocks) (λ z. other (inl z))
-            (λ j z e. rw (e, ← (lies-here .base j), ← (lies-there .base j)) (block-stored size x a (l .blocks) bytes j (lies-here .fits) z ∙ sym (block-stored size y b (l .blocks) bytes j (lies-there .fits) z)))
+            (λ j z e. rw (e, ← (lies-here .base j), ← (lies-there .base j)) (block-stored dev x a (l .blocks) bytes j (lies-here .fits) z ∙ sym (block-stored dev y b (l .blocks) bytes j (lies-there .fits) z)))
             (λ z. other (inr z));
-        kept = kept-write size (F .here) l (F .store) x bytes from lies-here (g .kept);
-        kept′ = kept-write size (F .there) l (F .store′) y bytes from lies-there (g .kept′);
+        kept = kept-write dev (F .here) l (F .store) x bytes from lies-here (g .kept);
+        kept′ = kept-write dev (F .there) l (F .store′) y bytes from lies-there (g .kept′);
       }

@@ -15,20 +15,22 @@ use borrow.Author.Tests.{eqb-true, ltb-false}
 use Rattle.slices.specs.Parts.{zeros}
 use Rattle.model.specs.declared.ccw.Ccw.{Ccw}
 use Rattle.model.specs.declared.record.Record.{Record}
+use Rattle.model.specs.declared.device.Device.{Device}
 use Rattle.model.specs.State.{State}
 use Rattle.model.specs.Names.{NO-OPERATION, DEFINE-EXTENT, LOCATE, READ, WRITE}
 use Rattle.numbers.specs.Choice.{_=?_}
 use Rattle.model.specs.Rules.{Rule, _when_, firstOf}
 use Rattle.model.specs.Lent.{fetched, delivered, blockCount, blocksFrom}
 use Rattle.model.specs.Parameters.{locateLength, locatedIn, address, reads, writes}
-use Rattle.model.specs.Causes.{channelCauses, unitCauses, extentCauses, defineExtentCauses, permissionCauses, locationCauses, locateCauses, readIplCauses, transferCauses, verdict, programCheck, a-locate}
+use Rattle.model.specs.Causes.{channelCauses, unitCauses, extentCauses, defineExtentCauses, permissionCauses, locationCauses, locateCauses, readIplCauses, transferCauses, verdict, a-locate, kindOf}
 use Rattle.model.specs.Sense.{senseOf}
 use Rattle.model.specs.Log.{withSense, movementCounted, logOf, logReset}
-use Rattle.model.specs.Commands.{Out, after, extentSet, locateSet, noOperation, defineExtent, locate, sent, sense, senseType, readLog, begun, read, write, accepted, refusal, refused, seen, decided, step}
+use Rattle.model.specs.Commands.{Out, after, extentSet, locateSet, noOperation, defineExtent, locate, sent, sense, senseType, readLog, begun, read, write, accepted, refusal, refused, seen, decided, step, defineDone, locateDone, readDone, writeDone}
 use Rattle.model.specs.Safe.{InExtent, Safe}
 use Rattle.model.specs.Exactly.{absent}
 use Rattle.numbers.proofs.Choice.{pick-both}
 use Rattle.model.proofs.Verdicts.{never-given, failed-upto}
+use Rattle.model.proofs.Leaving.{leaves-both}
 use Rattle.model.proofs.Steps.{Admitted, accepted-cases, past-channel, own-cases, accepted-no-operation, accepted-define, accepted-locate, accepted-read, accepted-write, accepted-sense, accepted-sense-type, accepted-read-log}
 use Rattle.model.proofs.Safety.{after-locate, locate-ok, safe-seen}
 use Rattle.model.proofs.Alike.{Place, Sound, States, Mains, Stores, Outs, states-after, mains-put, stores-read, stores-write}
@@ -37,41 +39,40 @@ use Rattle.model.proofs.AlikeVerdicts.{Fits, area, fetched-same, extent
 -- a refused command
 
 -- cause 39 alone shows parameters, and it is a LOCATE's, which has them
-shown : (size : ℕ) (c : Ccw) (s : State) (m x : List ℕ) → verdict size c s m x ≡ 39 → (c .command ≡ LOCATE) × (locateLength ≤ c .count)
+shown : (dev : Device) (c : Ccw) (s : State) (m x : List ℕ) → verdict dev c s m x ≡ 39 → (c .command ≡ LOCATE) × (locateLength ≤ c .count)
 unfolding channelCauses unitCauses extentCauses defineExtentCauses permissionCauses locationCauses locateCauses readIplCauses transferCauses
-shown size c s m x e =
+shown dev c s m x e =
     let Q : Type 0 = (c .command ≡ LOCATE) × (locateLength ≤ c .count) in
     let elsewhere : (rs : List Rule) → absent 39 rs ≡ true → firstOf rs ≡ 39 → Q = λ rs a v. absurd (never-given 39 rs a (λ z. omega arith) v) in
-    own-cases size c s m x (λ rs. firstOf rs ≡ 39 → Q)
+    own-cases dev c s m x (λ rs. firstOf rs ≡ 39 → Q)
     (λ _. elsewhere _ refl)
     (λ l v. (l, ltb-false _ _ (failed-upto 39 (30 when _ ∷ 31 when _ ∷ []) _ refl v .0 .1 .0)))
     (λ _. elsewhere _ refl) (λ _. elsewhere _ refl) (λ _. elsewhere _ refl) (elsewhere [] refl)
-    (past-channel size c s m x 39 refl e .1)
+    (past-channel dev c s m x 39 refl e .1)
 
-module _ (size : ℕ) (F : Place) (c : Ccw) (f : Fits F c) (s t : State) (r : States F s t) (m m′ : List ℕ) (g : Mains F m m′) (x x′ : List ℕ) (h : Stores size F x x′) where
-  sense-same : (w : ℕ) → verdict size c s m x ≡ w → senseOf w (fetched c m locateLength) ≡ senseOf w (fetched c m′ locateLength)
+module _ (dev : Device) (F : Place) (c : Ccw) (f : Fits F c) (s t : State) (r : States F s t) (m m′ : List ℕ) (g : Mains F m m′) (x x′ : List ℕ) (h : Stores dev F x x′) where
+  sense-same : (w : ℕ) → verdict dev c s m x ≡ w → senseOf w (fetched c m locateLength) ≡ senseOf w (fetched c m′ locateLength)
   unfolding senseOf
   sense-same w e =
       let p = pick-both _≡_ (w =? 39) (fetched c m locateLength) (zeros 8) (fetched c m′ locateLength) (zeros 8)
-      (λ b. let l = shown size c s m x (e ∙ eqb-true _ _ b) in fetched-same F c m m′ f g locateLength (λ d. omega (arith, l .0)) (omega (arith, l .1)) (l .1))
+      (λ b. let l = shown dev c s m x (e ∙ eqb-true _ _ b) in fetched-same F c m m′ f g locateLength (λ d. omega (arith, l .0)) (omega (arith, l .1)) (l .1))
       (λ _. refl) in
       rw p
 
-  refused-alike : (w : ℕ) → verdict size c s m x ≡ w → Outs size F (refused c s m x w) (refused c t m′ x′ w)
-  unfolding refused refusal
+  refused-alike : (w : ℕ) → verdict dev c s m x ≡ w → Outs dev F (refused c s m x w) (refused c t m′ x′ w)
+  unfolding refused
   refused-alike w e =
-      let u = pick-both _≡_ (programCheck w) (s .unit) (withSense (s .unit) (senseOf w (fetched c m locateLength))) (t .unit) (withSense (t .unit) (senseOf w (fetched c m′ locateLength)))
-      (λ _. r .unit) (λ _. rw (r .unit, sense-same w e)) in
-      record { dones = record { cause = refl; moved = refl; can = refl; blocks = refl; states = states-after F s t _ _ _ _ u refl r }; mains = g; stores = h }
+      let left = leaves-both (States F) (kindOf w) s t w (fetched c m locateLength) (fetched c m′ locateLength) r (states-after F s t _ _ _ _ (r .unit) refl r) (states-after F s t _ _ _ _ (rw (r .unit, sense-same w e)) refl r) in
+      record { dones = record { cause = refl; moved = refl; can = refl; blocks = refl; states = left }; mains = g; stores = h }
 
   -- commands that move no block
 
-  no-operation-alike : Outs size F (noOperation s m x) (noOperation t m′ x′)
+  no-operation-alike : Outs dev F (noOperation s m x) (noOperation t m′ x′)
   unfolding noOperation
   no-operation-alike = record { dones = record { cause = refl; moved = refl; can = refl; blocks = refl; states = states-after F s t _ _ _ _ (r .unit) refl r }; mains = g; stores = h }
 
-  define-alike : Sound size F → c .command ≡ DEFINE-EXTENT → Outs size F (defineExtent c s m x) (defineExtent c t m′ x′)
-  unfolding defineExtent extentSet
+  define-alike : Sound dev F → c .command ≡ DEFINE-EXTENT → Outs dev F (defineExtent c s m x) (defineExtent c t m′ x′)
+  unfolding defineExtent defineDone extentSet
   define-alike k e =
       let a = extent-here F c m m′ f g e in
       let b = extent-there F c m m′ f g e in
@@ -96,8 +97,8 @@ module _ (size : ℕ) (F : Place) (c : Ccw) (f : Fits F c) (s t : State) (r : St
         stores = h;
       }
 
-  locate-alike : c .command ≡ LOCATE → locateLength ≤ c .count → Outs size F (locate c s m x) (locate c t m′ x′)
-  unfolding locate locateSet
+  locate-alike : c .command ≡ LOCATE → locateLength ≤ c .count → Outs dev F (locate c s m x) (locate c t m′ x′)
+  unfolding locate locateDone locateSet
   locate-alike e l =
       let p = fetched-same F c m m′ f g locateLength (λ d. omega arith) (omega arith) l in
       record {
@@ -130,7 +131,7 @@ module _ (size : ℕ) (F : Place) (c : Ccw) (f : Fits F c) (s t : State) (r : St
       rw (← e) (mains-put F m m′ (c .address) (take n bytes) (omega arith) (area F c _ f o z few) g)
 
   sent-alike : (can : ℕ) (bytes bytes′ : List ℕ) (u u′ : Record) → bytes ≡ bytes′ → u ≡ u′ → Admitted c m → (c .command ≡ DEFINE-EXTENT → ⊥) → (c .command ≡ NO-OPERATION → ⊥)
-      → Outs size F (sent c s m x can bytes u) (sent c t m′ x′ can bytes′ u′)
+      → Outs dev F (sent c s m x can bytes u) (sent c t m′ x′ can bytes′ u′)
   unfolding sent
   sent-alike can bytes bytes′ u u′ b e a o n = record {
     dones = record { cause = refl; moved = refl; can = refl; blocks = refl; states = states-after F s t u u′ _ _ e refl r };
@@ -140,7 +141,7 @@ module _ (size : ℕ) (F : Place) (c : Ccw) (f : Fits F c) (s t : State) (r : St
 
   -- commands that move blocks
 
-  module _ (k : Sound size F) (w : Safe s (blockCount size x)) (l : a-locate (s .before) ≡ true) where
+  module _ (k : Sound dev F) (w : Safe s (blockCount dev x)) (l : a-locate (s .before) ≡ true) where
     -- the LOCATE before lies in the extent, in both runs
     here : s .extent ≡ F .here
     here = r .set (w .located l .0) .0
@@ -151,39 +152,39 @@ module _ (size : ℕ) (F : Place) (c : Ccw) (f : Fits F c) (s t : State) (r : St
     within : InExtent (F .here) (s .located)
     within = rw (← here) (w .located l .1)
 
-    read-alike : Admitted c m → c .command ≡ READ → Outs size F (read size c s m x) (read size c t m′ x′)
-    unfolding read
+    read-alike : Admitted c m → c .command ≡ READ → Outs dev F (read dev c s m x) (read dev c t m′ x′)
+    unfolding read readDone
     read-alike a e =
-        let can : s .located .blocks * size ≡ t .located .blocks * size = rw (r .located) in
-        let bytes : blocksFrom size x (address (s .extent) (s .located .displacement)) (s .located .blocks) ≡ blocksFrom size x′ (address (t .extent) (t .located .displacement)) (t .located .blocks)
-        = rw (here, there, ← (r .located)) (stores-read size F k (s .located) x x′ within h) in
+        let can : s .located .blocks * dev .block ≡ t .located .blocks * dev .block = rw (r .located) in
+        let bytes : blocksFrom dev x (address (s .extent) (s .located .displacement)) (s .located .blocks) ≡ blocksFrom dev x′ (address (t .extent) (t .located .displacement)) (t .located .blocks)
+        = rw (here, there, ← (r .located)) (stores-read dev F k (s .located) x x′ within h) in
         record {
           dones = record {
             cause = refl;
             moved = ap (min (c .count)) can;
             can = can;
-            blocks = ap (λ (n : ℕ). begun size (min (c .count) n)) can;
+            blocks = ap (λ (n : ℕ). begun dev (min (c .count) n)) can;
             states = states-after F s t _ _ _ _ (rw (can, r .unit)) refl r;
           };
-          mains = rw (← can) (delivered-alike _ _ (min (c .count) (s .located .blocks * size)) bytes (λ d. omega arith) (a .some) (a .room (λ z. omega arith)) (omega arith));
+          mains = rw (← can) (delivered-alike _ _ (min (c .count) (s .located .blocks * dev .block)) bytes (λ d. omega arith) (a .some) (a .room (λ z. omega arith)) (omega arith));
           stores = h;
         }
 
-    write-alike : Admitted c m → c .command ≡ WRITE → Outs size F (write size c s m x) (write size c t m′ x′)
-    unfolding write
+    write-alike : Admitted c m → c .command ≡ WRITE → Outs dev F (write dev c s m x) (write dev c t m′ x′)
+    unfolding write writeDone
     write-alike a e =
-        let can : s .located .blocks * size ≡ t .located .blocks * size = rw (r .located) in
-        let bytes = fetched-same F c m m′ f g (min (c .count) (s .located .blocks * size)) (λ d. omega arith) (a .some) (omega arith) in
+        let can : s .located .blocks * dev .block ≡ t .located .blocks * dev .block = rw (r .located) in
+        let bytes = fetched-same F c m m′ f g (min (c .count) (s .located .blocks * dev .block)) (λ d. omega arith) (a .some) (omega arith) in
         record {
           dones = record {
             cause = refl;
             moved = ap (min (c .count)) can;
             can = can;
-            blocks = ap (λ (n : ℕ). begun size (min (c .count) n)) can;
+            blocks = ap (λ (n : ℕ). begun dev (min (c .count) n)) can;
             states = states-after F s t _ _ _ _ (rw (r .located, r .unit)) refl r;
           };
           mains = g;
-          stores = rw (here, there, ← (r .located), ← bytes) (stores-write size F k (s .located) x x′ within h _);
+          stores = rw (here, there, ← (r .located), ← bytes) (stores-write dev F k (s .located) x x′ within h _);
         }
 
 -- any command
@@ -192,37 +193,37 @@ states-seen : (F : Place) (c : Ccw) (s t : State) → States F s t → States F 
 unfolding seen
 states-seen F c s t r = states-after F s t _ _ _ _ (rw (r .unit)) (r .before) r
 
-module _ (size : ℕ) (F : Place) (k : Sound size F) (c : Ccw) (f : Fits F c) (s t : State) (r : States F s t) (m m′ : List ℕ) (g : Mains F m m′) (x x′ : List ℕ) (h : Stores size F x x′)
-    (w : Safe s (blockCount size x)) where
-  accepted-alike : verdict size c s m x ≡ 0 → Outs size F (accepted size c (seen c s) m x) (accepted size c (seen c t) m′ x′)
+module _ (dev : Device) (F : Place) (k : Sound dev F) (c : Ccw) (f : Fits F c) (s t : State) (r : States F s t) (m m′ : List ℕ) (g : Mains F m m′) (x x′ : List ℕ) (h : Stores dev F x x′)
+    (w : Safe s (blockCount dev x)) where
+  accepted-alike : verdict dev c s m x ≡ 0 → Outs dev F (accepted dev c (seen c s) m x) (accepted dev c (seen c t) m′ x′)
   unfolding seen after sense senseType readLog
   accepted-alike v =
       let y : State = seen c s in
       let z : State = seen c t in
       let q : States F y z = states-seen F c s t r in
-      let safe : Safe y (blockCount size x) = safe-seen c s _ w in
-      let P : Out → Type 0 = λ o. Outs size F o (accepted size c z m′ x′) in
-      let sends : (can : ℕ) (bytes bytes′ : List ℕ) (u u′ : Record) → bytes ≡ bytes′ → u ≡ u′ → Admitted c m → (c .command ≡ DEFINE-EXTENT → ⊥) → (c .command ≡ NO-OPERATION → ⊥) → Outs size F (sent c y m x can bytes u) (sent c z m′ x′ can bytes′ u′)
-      = sent-alike size F c f y z q m m′ g x x′ h in
-      accepted-cases size c s m x P
+      let safe : Safe y (blockCount dev x) = safe-seen c s _ w in
+      let P : Out → Type 0 = λ o. Outs dev F o (accepted dev c z m′ x′) in
+      let sends : (can : ℕ) (bytes bytes′ : List ℕ) (u u′ : Record) → bytes ≡ bytes′ → u ≡ u′ → Admitted c m → (c .command ≡ DEFINE-EXTENT → ⊥) → (c .command ≡ NO-OPERATION → ⊥) → Outs dev F (sent c y m x can bytes u) (sent c z m′ x′ can bytes′ u′)
+      = sent-alike dev F c f y z q m m′ g x x′ h in
+      accepted-cases dev c s m x P
       (record {
         refusal = λ n o e. absurd (o (sym e ∙ v));
-        no-operation = λ e. rw (accepted-no-operation size c z m′ x′ e) (no-operation-alike size F c f y z q m m′ g x x′ h);
-        define-extent = λ a e _. rw (accepted-define size c z m′ x′ e) (define-alike size F c f y z q m m′ g x x′ h k e);
-        locate = λ a e l. rw (accepted-locate size c z m′ x′ e) (locate-alike size F c f y z q m m′ g x x′ h e (locate-ok c s _ l .long));
-        read = λ a e l. rw (accepted-read size c z m′ x′ e) (read-alike size F c f y z q m m′ g x x′ h k safe (after-locate reads s l) a e);
-        write = λ a e l. rw (accepted-write size c z m′ x′ e) (write-alike size F c f y z q m m′ g x x′ h k safe (after-locate writes s l) a e);
+        no-operation = λ e. rw (accepted-no-operation dev c z m′ x′ e) (no-operation-alike dev F c f y z q m m′ g x x′ h);
+        define-extent = λ a e _. rw (accepted-define dev c z m′ x′ e) (define-alike dev F c f y z q m m′ g x x′ h k e);
+        locate = λ a e l. rw (accepted-locate dev c z m′ x′ e) (locate-alike dev F c f y z q m m′ g x x′ h e (locate-ok c s _ l .long));
+        read = λ a e l. rw (accepted-read dev c z m′ x′ e) (read-alike dev F c f y z q m m′ g x x′ h k safe (after-locate reads s l) a e);
+        write = λ a e l. rw (accepted-write dev c z m′ x′ e) (write-alike dev F c f y z q m m′ g x x′ h k safe (after-locate writes s l) a e);
         read-ipl = λ a e _. absurd (f .no-ipl e);
-        sense = λ a e. rw (accepted-sense size c z m′ x′ e) (sends 24 _ _ _ _ (ap (λ (u : Record). u .sense) (q .unit)) (ap (λ (u : Record). withSense u (zeros 24)) (q .unit)) a (λ d. omega arith) (λ d. omega arith));
-        sense-type = λ a e. rw (accepted-sense-type size c z m′ x′ e) (sends 7 _ _ _ _ refl (q .unit) a (λ d. omega arith) (λ d. omega arith));
-        read-log = λ a e. rw (accepted-read-log size c z m′ x′ e) (sends 24 _ _ _ _ (ap logOf (q .unit)) (ap logReset (q .unit)) a (λ d. omega arith) (λ d. omega arith));
+        sense = λ a e. rw (accepted-sense dev c z m′ x′ e) (sends 24 _ _ _ _ (ap (λ (u : Record). u .sense) (q .unit)) (ap (λ (u : Record). withSense u (zeros 24)) (q .unit)) a (λ d. omega arith) (λ d. omega arith));
+        sense-type = λ a e. rw (accepted-sense-type dev c z m′ x′ e) (sends 7 _ _ _ _ refl (q .unit) a (λ d. omega arith) (λ d. omega arith));
+        read-log = λ a e. rw (accepted-read-log dev c z m′ x′ e) (sends 24 _ _ _ _ (ap logOf (q .unit)) (ap logReset (q .unit)) a (λ d. omega arith) (λ d. omega arith));
       })
       v
 
-  pub step-alike : Outs size F (step size c s m x) (step size c t m′ x′)
+  pub step-alike : Outs dev F (step dev c s m x) (step dev c t m′ x′)
   unfolding step decided
   step-alike =
-      let e = verdict-same size F k c f s t r m m′ g x x′ h in
+      let e = verdict-same dev F k c f s t r m m′ g x x′ h in
       rw (← e)
-      (pick-both (Outs size F) (verdict size c s m x =? 0) _ _ _ _
-      (λ b. accepted-alike (eqb-true _ _ b)) (λ b. refused-alike size F c f s t r m m′ g x x′ h (verdict size c s m x) refl))
+      (pick-both (Outs dev F) (verdict dev c s m x =? 0) _ _ _ _
+      (λ b. accepted-alike (eqb-true _ _ b)) (λ b. refused-alike dev F c f s t r m m′ g x x′ h (verdict dev c s m x) refl))

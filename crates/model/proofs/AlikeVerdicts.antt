@@ -15,6 +15,7 @@ use native.Mathlib.Omega.{arith}
 use borrow.Author.Tests.{eqb-true, eqb-false, ltb-false, lt-ltb}
 use Rattle.model.specs.declared.ccw.Ccw.{Ccw}
 use Rattle.model.specs.declared.extent.Extent.{Extent}
+use Rattle.model.specs.declared.device.Device.{Device}
 use Rattle.model.specs.State.{State}
 use Rattle.model.specs.Names.{DEFINE-EXTENT, LOCATE, READ-IPL}
 use Rattle.numbers.specs.Choice.{_<?_}
@@ -58,9 +59,9 @@ module _ (F : Place) (c : Ccw) (m m′ : List ℕ) (f : Fits F c) (g : Mains F m
   unfolding reservedIn
   reserved-same e = byte-same e 1 (omega arith)
 
-  size-same : c .command ≡ DEFINE-EXTENT → sizeIn (fetched c m extentLength) ≡ sizeIn (fetched c m′ extentLength)
+  dev-same : c .command ≡ DEFINE-EXTENT → sizeIn (fetched c m extentLength) ≡ sizeIn (fetched c m′ extentLength)
   unfolding sizeIn
-  size-same e = rw (byte-same e 2 (omega arith), byte-same e 3 (omega arith))
+  dev-same e = rw (byte-same e 2 (omega arith), byte-same e 3 (omega arith))
 
 -- each command's own table
 
@@ -68,21 +69,21 @@ last-inside : (e : Extent) (n : ℕ) → e .offset .0 + (e .last .0 - e .first .
 unfolding address
 last-inside e n h = lt-ltb (e .last .0 - e .first .0 + e .offset .0) n (omega arith)
 
-extent-same : (size n : ℕ) (p p′ : List ℕ) (e e′ : Extent) → extentIn p ≡ e → extentIn p′ ≡ e′ → e .mask ≡ e′ .mask → e .first ≡ e′ .first → e .last ≡ e′ .last
+extent-same : (dev : Device) (n : ℕ) (p p′ : List ℕ) (e e′ : Extent) → extentIn p ≡ e → extentIn p′ ≡ e′ → e .mask ≡ e′ .mask → e .first ≡ e′ .first → e .last ≡ e′ .last
     → reservedIn p ≡ reservedIn p′ → sizeIn p ≡ sizeIn p′ → address e (e .last) <? n ≡ true → address e′ (e′ .last) <? n ≡ true
-    → extentCauses size n p ≡ extentCauses size n p′
+    → extentCauses dev n p ≡ extentCauses dev n p′
 unfolding extentCauses
-extent-same size n p p′ e e′ a b mask first last reserved sizes in-here in-there = rw (a, b, in-here, in-there, mask, first, last, reserved, sizes)
+extent-same dev n p p′ e e′ a b mask first last reserved sizes in-here in-there = rw (a, b, in-here, in-there, mask, first, last, reserved, sizes)
 
-module _ (size : ℕ) (F : Place) (k : Sound size F) (c : Ccw) (f : Fits F c) (s t : State) (r : States F s t) (m m′ : List ℕ) (g : Mains F m m′) where
-  define-same : (n : ℕ) → c .command ≡ DEFINE-EXTENT → n ≡ blockCount size (F .store)
-      → defineExtentCauses size n c s (fetched c m extentLength) ≡ defineExtentCauses size n c t (fetched c m′ extentLength)
+module _ (dev : Device) (F : Place) (k : Sound dev F) (c : Ccw) (f : Fits F c) (s t : State) (r : States F s t) (m m′ : List ℕ) (g : Mains F m m′) where
+  define-same : (n : ℕ) → c .command ≡ DEFINE-EXTENT → n ≡ blockCount dev (F .store)
+      → defineExtentCauses dev n c s (fetched c m extentLength) ≡ defineExtentCauses dev n c t (fetched c m′ extentLength)
   unfolding defineExtentCauses
   define-same n e w =
       let here = last-inside (F .here) n (rw w (k .room)) in
-      let there = last-inside (F .there) n (rw (w, count-same size (F .store) (F .store′) (k .sizes)) (k .room′)) in
-      let x = extent-same size n _ _ (F .here) (F .there) (extent-here F c m m′ f g e) (extent-there F c m m′ f g e) (k .mask) (k .first) (k .last)
-      (reserved-same F c m m′ f g e) (size-same F c m m′ f g e) here there in
+      let there = last-inside (F .there) n (rw (w, count-same dev (F .store) (F .store′) (k .sizes)) (k .room′)) in
+      let x = extent-same dev n _ _ (F .here) (F .there) (extent-here F c m m′ f g e) (extent-there F c m m′ f g e) (k .mask) (k .first) (k .last)
+      (reserved-same F c m m′ f g e) (dev-same F c m m′ f g e) here there in
       rw (r .defined, x)
 
   locate-states : (p : List ℕ) → locateCauses c s p ≡ locateCauses c t p
@@ -114,19 +115,19 @@ some-count : (c : Ccw) (s : State) (m : List ℕ) → Failed (channelCauses c m 
 unfolding channelCauses unitCauses
 some-count c s m w = let none = eqb-false (c .count) 0 (w .1 .1 .0) in omega (arith, none)
 
-module _ (size : ℕ) (F : Place) (k : Sound size F) (c : Ccw) (f : Fits F c) (s t : State) (r : States F s t) (m m′ : List ℕ) (g : Mains F m m′) (x x′ : List ℕ) (h : Stores size F x x′) where
-  own-same : 0 < c .count → firstOf (ownCauses size c s m x) ≡ firstOf (ownCauses size c t m′ x′)
+module _ (dev : Device) (F : Place) (k : Sound dev F) (c : Ccw) (f : Fits F c) (s t : State) (r : States F s t) (m m′ : List ℕ) (g : Mains F m m′) (x x′ : List ℕ) (h : Stores dev F x x′) where
+  own-same : 0 < c .count → firstOf (ownCauses dev c s m x) ≡ firstOf (ownCauses dev c t m′ x′)
   unfolding ownCauses
   own-same z =
       let Q : List Rule → List Rule → Type 0 = λ a b. firstOf a ≡ firstOf b in
-      let n : blockCount size x ≡ blockCount size (F .store) = count-same size x (F .store) (h .long) in
-      let n′ : blockCount size x′ ≡ blockCount size (F .store) = count-same size x′ (F .store) (h .long′ ∙ sym (k .sizes)) in
-      pick-both Q _ _ _ _ _ (λ b. rw (n, n′) (ap firstOf (define-same size F k c f s t r m m′ g _ (eqb-true _ _ b) refl))) (λ _.
-      pick-both Q _ _ _ _ _ (λ b. locate-same size F k c f s t r m m′ g (eqb-true _ _ b) z) (λ _.
+      let n : blockCount dev x ≡ blockCount dev (F .store) = count-same dev x (F .store) (h .long) in
+      let n′ : blockCount dev x′ ≡ blockCount dev (F .store) = count-same dev x′ (F .store) (h .long′ ∙ sym (k .sizes)) in
+      pick-both Q _ _ _ _ _ (λ b. rw (n, n′) (ap firstOf (define-same dev F k c f s t r m m′ g _ (eqb-true _ _ b) refl))) (λ _.
+      pick-both Q _ _ _ _ _ (λ b. locate-same dev F k c f s t r m m′ g (eqb-true _ _ b) z) (λ _.
       pick-both Q _ _ _ _ _ (λ b. absurd (f .no-ipl (eqb-true _ _ b))) (λ _.
-      pick-both Q _ _ _ _ _ (λ _. ap firstOf (transfer-same size F k c f s t r m m′ g reads)) (λ _.
-      pick-both Q _ _ _ _ _ (λ _. ap firstOf (transfer-same size F k c f s t r m m′ g writes)) (λ _. refl)))))
+      pick-both Q _ _ _ _ _ (λ _. ap firstOf (transfer-same dev F k c f s t r m m′ g reads)) (λ _.
+      pick-both Q _ _ _ _ _ (λ _. ap firstOf (transfer-same dev F k c f s t r m m′ g writes)) (λ _. refl)))))
 
-  pub verdict-same : verdict size c s m x ≡ verdict size c t m′ x′
+  pub verdict-same : verdict dev c s m x ≡ verdict dev c t m′ x′
   unfolding verdict causesOf
   verdict-same = rw (← (channel-same F c m m′ g), ← (unit-same F c s t r)) (first-same (channelCauses c m ++ unitCauses c s) _ _ (λ w. own-same (some-count c s m w)))

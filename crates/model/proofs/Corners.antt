@@ -180,13 +180,13 @@ call-corners large e = rw e refl
 -- The two limits that no example can hold: 16,777,216 bytes of main storage, and 131,072 blocks. Any list of that length, and of one more.
 
 pub storage-limit : (main : List ℕ)
-    → (length main ≡ 16777216 → firstOf (callCauses 512 one-command main (device 1) (replicate 8 0)) ≡ 0)
-    × (length main ≡ 16777217 → firstOf (callCauses 512 one-command main (device 1) (replicate 8 0)) ≡ 3)
+    → (length main ≡ 16777216 → firstOf (callCauses classA one-command main (device 1) (replicate 8 0)) ≡ 0)
+    × (length main ≡ 16777217 → firstOf (callCauses classA one-command main (device 1) (replicate 8 0)) ≡ 3)
 unfolding opened
 storage-limit main = (λ e. rw e refl, λ e. rw e refl)
 
 pub store-limit : (store : List ℕ)
-    → (length store ≡ 131072 * 512 → firstOf (callCauses 512 one-command [] store (replicate 8 0)) ≡ 0)
-    × (length store ≡ 131073 * 512 → firstOf (callCauses 512 one-command [] store (replicate 8 0)) ≡ 2)
+    → (length store ≡ 131072 * 512 → firstOf (callCauses classA one-command [] store (replicate 8 0)) ≡ 0)
+    × (length store ≡ 131073 * 512 → firstOf (callCauses classA one-command [] store (replicate 8 0)) ≡ 2)
 unfolding opened
 store-limit store = (λ e. rw e refl, λ e. rw e refl)

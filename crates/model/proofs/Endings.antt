@@ -8,6 +8,7 @@ use lib.ListN.{length}
 use native.Mathlib.Omega.{arith}
 use borrow.Author.Tests.{eqb-true, eqb-false, ltb-false, not-false}
 use Rattle.model.specs.declared.record.Record.{Record}
+use Rattle.model.specs.declared.device.Device.{Device}
 use Rattle.model.specs.Rules.{firstOf}
 use Rattle.model.specs.Lent.{ccwSize, blockCount}
 use Rattle.model.specs.Causes.{callCauses}
@@ -17,20 +18,20 @@ use Rattle.numbers.proofs.Joined.{either-false}
 use Rattle.model.proofs.Verdicts.{failed-all}
 
 -- what a call is known to have where its cause is 0
-pub record Callable (size : ℕ) (chain main store answers : List ℕ) : Type 0 where
+pub record Callable (dev : Device) (chain main store answers : List ℕ) : Type 0 where
   pub some : 1 ≤ length chain / ccwSize
   pub few : length chain / ccwSize ≤ 32
   pub whole : length chain / ccwSize * ccwSize ≡ length chain
   pub stored : length store ≡ 0 → ⊥
-  pub even : length store % size ≡ 0
-  pub held : blockCount size store ≤ 131072
+  pub even : length store % dev .block ≡ 0
+  pub held : blockCount dev store ≤ 131072
   pub small : length main ≤ 16777216
   pub answered : length chain ≤ length answers
 
-pub callable : (size : ℕ) (chain main store answers : List ℕ) → firstOf (callCauses size chain main store answers) ≡ 0 → Callable size chain main store answers
+pub callable : (dev : Device) (chain main store answers : List ℕ) → firstOf (callCauses dev chain main store answers) ≡ 0 → Callable dev chain main store answers
 unfolding callCauses
-callable size chain main store answers e =
-    let f = failed-all 0 (callCauses size chain main store answers) refl e in
+callable dev chain main store answers e =
+    let f = failed-all 0 (callCauses dev chain main store answers) refl e in
     let p = either-false _ _ (f .0) in
     let q = either-false _ _ (p .0) in
     let r = either-false _ _ (f .1 .0) in
@@ -50,25 +51,25 @@ callable size chain main store answers e =
     }
 
 -- a run of n commands at most reaches one of them, where there is one, and no more than n
-pub run-reached : (size : ℕ) (chain : List ℕ) (n i : ℕ) (y : System) → y .reached ≡ i → (i + min 1 n ≤ run size chain n i y .reached) × (run size chain n i y .reached ≤ i + n)
+pub run-reached : (dev : Device) (chain : List ℕ) (n i : ℕ) (y : System) → y .reached ≡ i → (i + min 1 n ≤ run dev chain n i y .reached) × (run dev chain n i y .reached ≤ i + n)
 unfolding run next
-run-reached size chain zero i y e = (omega arith, omega arith)
-run-reached size chain (suc n) i y e =
+run-reached dev chain zero i y e = (omega arith, omega arith)
+run-reached dev chain (suc n) i y e =
     pick-ind (λ (z : System). (i + min 1 (suc n) ≤ z .reached) × (z .reached ≤ i + suc n)) _ _ _
     (λ _.
-    let r = run-reached size chain n (i + 1) (next size chain i y) refl in
+    let r = run-reached dev chain n (i + 1) (next dev chain i y) refl in
     (omega (arith, r .0), omega (arith, r .1)))
     (λ _. (omega arith, omega arith))
 
-pub call-reached : (size : ℕ) (chain main store : List ℕ) (u : Record) (answers : List ℕ)
-    → (callOf size chain main store u answers .cause ≡ 0 → 1 ≤ callOf size chain main store u answers .reached)
-    × (callOf size chain main store u answers .reached ≤ length chain / ccwSize)
+pub call-reached : (dev : Device) (chain main store : List ℕ) (u : Record) (answers : List ℕ)
+    → (callOf dev chain main store u answers .cause ≡ 0 → 1 ≤ callOf dev chain main store u answers .reached)
+    × (callOf dev chain main store u answers .reached ≤ length chain / ccwSize)
 unfolding callOf
-call-reached size chain main store u answers =
-    let w : ℕ = firstOf (callCauses size chain main store answers) in
+call-reached dev chain main store u answers =
+    let w : ℕ = firstOf (callCauses dev chain main store answers) in
     let n : ℕ = length chain / ccwSize in
     let y : System = system (start u) main store answers 0 in
-    let r = run-reached size chain n 0 y refl in
+    let r = run-reached dev chain n 0 y refl in
     pick-ind (λ (z : System). (w ≡ 0 → 1 ≤ z .reached) × (z .reached ≤ n)) _ _ _
-    (λ b. (λ e. let p = callable size chain main store answers e .some in omega (arith, r .0, p), omega (arith, r .1)))
+    (λ b. (λ e. let p = callable dev chain main store answers e .some in omega (arith, r .0, p), omega (arith, r .1)))
     (λ b. (λ e. absurd (eqb-false _ _ b e), omega arith))

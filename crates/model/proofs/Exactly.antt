@@ -12,6 +12,7 @@ use native.Mathlib.Omega.{arith}
 use borrow.Author.Tests.{eqb-true}
 use Rattle.model.specs.declared.ccw.Ccw.{Ccw}
 use Rattle.model.specs.declared.record.Record.{Record}
+use Rattle.model.specs.declared.device.Device.{Device}
 use Rattle.model.specs.State.{State}
 use Rattle.model.specs.Rules.{Rule, firstOf}
 use Rattle.model.specs.Lent.{recordOf}
@@ -28,44 +29,44 @@ use Rattle.model.proofs.Hosts.{host-passed, result-reads}
 
 -- a command
 
-module _ (size : ℕ) (c : Ccw) (s : State) (main store : List ℕ) where
-  command-once : once (causesOf size c s main store) ≡ true
+module _ (dev : Device) (c : Ccw) (s : State) (main store : List ℕ) where
+  command-once : once (causesOf dev c s main store) ≡ true
   unfolding causesOf channelCauses unitCauses defineExtentCauses extentCauses locateCauses locationCauses permissionCauses readIplCauses transferCauses
   command-once =
-      own-cases size c s main store (λ (rs : List Rule). once (channelCauses c main ++ unitCauses c s ++ rs) ≡ true) (λ _. refl) (λ _. refl) (λ _. refl) (λ _. refl) (λ _. refl) refl
+      own-cases dev c s main store (λ (rs : List Rule). once (channelCauses c main ++ unitCauses c s ++ rs) ≡ true) (λ _. refl) (λ _. refl) (λ _. refl) (λ _. refl) (λ _. refl) refl
 
-  pub step-exactly : GivenExactly (causesOf size c s main store) (step size c s main store .done .cause)
+  pub step-exactly : GivenExactly (causesOf dev c s main store) (step dev c s main store .done .cause)
   unfolding verdict
-  step-exactly = rw (step-cause size c s main store) (exactly (causesOf size c s main store) command-once)
+  step-exactly = rw (step-cause dev c s main store) (exactly (causesOf dev c s main store) command-once)
 
 -- the call
 
-module _ (size : ℕ) (chain main store answers : List ℕ) where
-  call-once : once (callCauses size chain main store answers) ≡ true
+module _ (dev : Device) (chain main store answers : List ℕ) where
+  call-once : once (callCauses dev chain main store answers) ≡ true
   unfolding callCauses
   call-once = refl
 
-  pub call-exactly : (u : Record) → GivenExactly (callCauses size chain main store answers) (callOf size chain main store u answers .cause)
+  pub call-exactly : (u : Record) → GivenExactly (callCauses dev chain main store answers) (callOf dev chain main store u answers .cause)
   unfolding callOf
-  call-exactly u = exactly (callCauses size chain main store answers) call-once
+  call-exactly u = exactly (callCauses dev chain main store answers) call-once
 
   -- from C
 
-  host-once : (unit : List ℕ) → once (hostCauses size chain main store unit answers) ≡ true
+  host-once : (unit : List ℕ) → once (hostCauses dev chain main store unit answers) ≡ true
   unfolding hostCauses callCauses
   host-once unit = refl
 
-  host-cause : (unit : List ℕ) → hostCallOf size chain main store unit answers .result / 256 ≡ firstOf (hostCauses size chain main store unit answers)
+  host-cause : (unit : List ℕ) → hostCallOf dev chain main store unit answers .result / 256 ≡ firstOf (hostCauses dev chain main store unit answers)
   unfolding hostCallOf callOf
   host-cause unit =
-      let w : ℕ = firstOf (hostCauses size chain main store unit answers) in
-      let r : Called = callOf size chain main store (recordOf unit) answers in
+      let w : ℕ = firstOf (hostCauses dev chain main store unit answers) in
+      let r : Called = callOf dev chain main store (recordOf unit) answers in
       pick-ind (λ (h : Hosted). h .result / 256 ≡ w) _ _ _
       (λ b.
-      let p = host-passed size chain main store unit answers (eqb-true _ _ b) in
-      let few : r .reached < 256 = omega (arith, callable size chain main store answers (p .0) .few, call-reached size chain main store (recordOf unit) answers .1) in
+      let p = host-passed dev chain main store unit answers (eqb-true _ _ b) in
+      let few : r .reached < 256 = omega (arith, callable dev chain main store answers (p .0) .few, call-reached dev chain main store (recordOf unit) answers .1) in
       result-reads (r .cause) (r .reached) few .0 ∙ p .0 ∙ sym (eqb-true _ _ b))
       (λ b. result-reads w 0 (omega arith) .0)
 
-  pub host-exactly : (unit : List ℕ) → GivenExactly (hostCauses size chain main store unit answers) (hostCallOf size chain main store unit answers .result / 256)
-  host-exactly unit = rw (host-cause unit) (exactly (hostCauses size chain main store unit answers) (host-once unit))
+  pub host-exactly : (unit : List ℕ) → GivenExactly (hostCauses dev chain main store unit answers) (hostCallOf dev chain main store unit answers .result / 256)
+  host-exactly unit = rw (host-cause unit) (exactly (hostCauses dev chain main store unit answers) (host-once unit))

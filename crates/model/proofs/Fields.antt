@@ -17,20 +17,22 @@ use Rattle.slices.specs.Parts.{zeros}
 use Rattle.slices.proofs.Laws.{length-zeros, length-part, length-put-is, bytes-zeros, bytes-part, bytes-put, bytes-pad}
 use Rattle.model.specs.declared.ccw.Ccw.{Ccw}
 use Rattle.model.specs.declared.record.Record.{Record}
+use Rattle.model.specs.declared.device.Device.{Device}
 use Rattle.model.specs.State.{State}
 use Rattle.numbers.specs.Choice.{_<?_, _=?_, pick}
 use Rattle.model.specs.Rules.{Rule, firstOf}
 use Rattle.model.specs.Lent.{fetched, delivered, blockAt, blocksFrom, blocksInto}
 use Rattle.model.specs.Parameters.{locateLength}
-use Rattle.model.specs.Causes.{channelCauses, unitCauses, extentCauses, defineExtentCauses, permissionCauses, locationCauses, locateCauses, readIplCauses, transferCauses, ownCauses, causesOf, verdict}
+use Rattle.model.specs.Causes.{channelCauses, unitCauses, extentCauses, defineExtentCauses, permissionCauses, locationCauses, locateCauses, readIplCauses, transferCauses, ownCauses, causesOf, verdict, kindOf}
 use Rattle.model.specs.Sense.{SenseRow, senseTable, rowIn, senseOf}
 use Rattle.model.specs.Log.{withSense, withCounts, added3, added2, readCounted, writtenCounted, movementCounted, logOf, logReset}
-use Rattle.model.specs.Commands.{Out, noOperation, defineExtent, locate, sent, sense, senseType, readLog, begun, read, write, readIpl, refused, refusal, seen, after, extentSet, locateSet, step}
+use Rattle.model.specs.Commands.{Out, noOperation, defineExtent, locate, sent, sense, senseType, readLog, begun, read, write, readIpl, refused, refusal, seen, after, extentSet, locateSet, step, defineDone, iplDone, locateDone, readDone, writeDone}
 use Rattle.model.specs.Exactly.{absent}
 use Rattle.numbers.proofs.Choice.{pick-ind}
 use Rattle.numbers.proofs.Joined.{both-true}
 use Rattle.model.proofs.Verdicts.{peel, never-given}
 use Rattle.model.proofs.Safety.{define-ok, locate-ok}
+use Rattle.model.proofs.Leaving.{leaves-ind}
 use Rattle.model.proofs.Steps.{past-channel, own-cases, Cases, step-cases}
 
 -- the unit record
@@ -171,13 +173,13 @@ unfolding locateCauses locationCauses permissionCauses firstOf
 located-long c s p e = ltb-false _ _ (peel _ _ _ 39 (λ z. omega arith) (peel _ _ _ 39 (λ z. omega arith) e .1) .0)
 
 -- where the verdict is 39 the command is a LOCATE whose eight bytes were there
-located-bytes : (size : ℕ) (c : Ccw) (s : State) (main store : List ℕ) → verdict size c s main store ≡ 39 → length (fetched c main locateLength) ≡ 8
+located-bytes : (dev : Device) (c : Ccw) (s : State) (main store : List ℕ) → verdict dev c s main store ≡ 39 → length (fetched c main locateLength) ≡ 8
 unfolding channelCauses unitCauses defineExtentCauses extentCauses readIplCauses transferCauses fetched
-located-bytes size c s main store e =
-    let p = past-channel size c s main store 39 refl e in
+located-bytes dev c s main store e =
+    let p = past-channel dev c s main store 39 refl e in
     let P : List Rule → Type 0 = λ rs. firstOf rs ≡ 39 → length (fetched c main locateLength) ≡ 8 in
     let other : (rs : List Rule) → absent 39 rs ≡ true → P rs = λ rs a g. absurd (never-given 39 rs a (λ z. omega arith) g) in
-    own-cases size c s main store P (λ _. other _ refl)
+    own-cases dev c s main store P (λ _. other _ refl)
     (λ x g. length-part main (c .address) 8 (omega (arith, located-long c s _ g, p .0 .room (λ z. omega arith))))
     (λ _. other _ refl) (λ _. other _ refl) (λ _. other _ refl) (other [] refl) (p .1)
 
@@ -198,32 +200,32 @@ small-all : (rs : List Rule) → small-causes rs ≡ true → firstOf rs < 256
 unfolding firstOf
 small-all rs e = rw append-nil at (small-first rs [] e (omega arith))
 
-verdict-small : (size : ℕ) (c : Ccw) (s : State) (main store : List ℕ) → verdict size c s main store < 256
+pub verdict-small : (dev : Device) (c : Ccw) (s : State) (main store : List ℕ) → verdict dev c s main store < 256
 unfolding verdict causesOf channelCauses unitCauses defineExtentCauses extentCauses locateCauses locationCauses permissionCauses readIplCauses transferCauses small-causes
-verdict-small size c s main store =
-    small-first (channelCauses c main ++ unitCauses c s) (ownCauses size c s main store) refl
-    (own-cases size c s main store (λ rs. firstOf rs < 256)
+verdict-small dev c s main store =
+    small-first (channelCauses c main ++ unitCauses c s) (ownCauses dev c s main store) refl
+    (own-cases dev c s main store (λ rs. firstOf rs < 256)
     (λ _. small-all _ refl) (λ _. small-all _ refl) (λ _. small-all _ refl) (λ _. small-all _ refl) (λ _. small-all _ refl) (small-all [] refl))
 
 -- blocks
 
-blocks-from-bytes : (size : ℕ) (store : List ℕ) (block n : ℕ) → AreBytes store → AreBytes (blocksFrom size store block n)
+blocks-from-bytes : (dev : Device) (store : List ℕ) (block n : ℕ) → AreBytes store → AreBytes (blocksFrom dev store block n)
 unfolding blocksFrom blockAt
-blocks-from-bytes size store block zero b = bytes-nil
-blocks-from-bytes size store block (suc n) b = bytes-append _ _ (bytes-part store _ size b) (blocks-from-bytes size store (block + 1) n b)
+blocks-from-bytes dev store block zero b = bytes-nil
+blocks-from-bytes dev store block (suc n) b = bytes-append _ _ (bytes-part store _ (dev .block) b) (blocks-from-bytes dev store (block + 1) n b)
 
-blocks-into-bytes : (size : ℕ) (store : List ℕ) (block n : ℕ) (bytes : List ℕ) → AreBytes store → AreBytes bytes → AreBytes (blocksInto size store block n bytes)
+blocks-into-bytes : (dev : Device) (store : List ℕ) (block n : ℕ) (bytes : List ℕ) → AreBytes store → AreBytes bytes → AreBytes (blocksInto dev store block n bytes)
 unfolding blocksInto
-blocks-into-bytes size store block zero bytes b d = b
-blocks-into-bytes size store block (suc n) bytes b d =
-    blocks-into-bytes size _ (block + 1) n _ (bytes-put store _ _ b (bytes-pad size bytes d)) (bytes-drop size bytes d)
+blocks-into-bytes dev store block zero bytes b d = b
+blocks-into-bytes dev store block (suc n) bytes b d =
+    blocks-into-bytes dev _ (block + 1) n _ (bytes-put store _ _ b (bytes-pad (dev .block) bytes d)) (bytes-drop (dev .block) bytes d)
 
 -- a block that is begun has a byte, so there are no more of them than bytes
-pub begun-least : (size n : ℕ) → 1 ≤ size → begun size n ≤ n
+pub begun-least : (dev : Device) (n : ℕ) → 1 ≤ dev .block → begun dev n ≤ n
 unfolding begun
-begun-least size n h =
-    let e : n * 1 ≤ n * size = mul-le-mul-left n h in
-    let l : (n + (size - 1)) / size < n + 1 = div-lt-iff-lt-mul h .1 (omega (arith, e)) in
+begun-least dev n h =
+    let e : n * 1 ≤ n * dev .block = mul-le-mul-left n h in
+    let l : (n + (dev .block - 1)) / dev .block < n + 1 = div-lt-iff-lt-mul h .1 (omega (arith, e)) in
     omega (arith, l)
 
 log-bytes : (u : Record) → IsRecord u → AreBytes (logOf u)
@@ -242,19 +244,19 @@ pub record Fields (c : Ccw) (o : Out) : Type 0 where
   pub moved-fits : o .done .moved ≤ c .count
   pub blocks-fit : o .done .blocks ≤ c .count
 
-module _ (size : ℕ) (c : Ccw) (s : State) (main store : List ℕ) (h : 1 ≤ size) (r : IsRecord (s .unit)) (m : AreBytes main) (d : AreBytes store) where
+module _ (dev : Device) (c : Ccw) (s : State) (main store : List ℕ) (h : 1 ≤ dev .block) (r : IsRecord (s .unit)) (m : AreBytes main) (d : AreBytes store) where
   seen-record : IsRecord (seen c s .unit)
   unfolding seen after
   seen-record = pick-ind IsRecord _ _ _ (λ _. r) (λ _. sense-record (s .unit) (zeros 24) (length-zeros 24) (bytes-zeros 24) r)
 
-  refused-fields : (w : ℕ) → verdict size c s main store ≡ w → Fields c (refused c s main store w)
-  unfolding refused refusal after fetched
+  refused-fields : (w : ℕ) → verdict dev c s main store ≡ w → Fields c (refused c s main store w)
+  unfolding refused after fetched
   refused-fields w e = record {
-    unit-fields = pick-ind IsRecord _ _ _ (λ _. r)
-        (λ _. sense-record (s .unit) _ (sense-length w _ (λ z. located-bytes size c s main store (e ∙ z))) (sense-bytes w _ (bytes-part main _ _ m)) r);
+    unit-fields = leaves-ind (λ (t : State). IsRecord (t .unit)) (kindOf w) s w (fetched c main locateLength) r r
+        (sense-record (s .unit) _ (sense-length w _ (λ z. located-bytes dev c s main store (e ∙ z))) (sense-bytes w _ (bytes-part main _ _ m)) r);
     main-bytes = m;
     store-bytes = d;
-    cause-byte = rw (← e) (verdict-small size c s main store);
+    cause-byte = rw (← e) (verdict-small dev c s main store);
     moved-fits = omega arith;
     blocks-fit = omega arith;
   }
@@ -271,34 +273,34 @@ module _ (size : ℕ) (c : Ccw) (s : State) (main store : List ℕ) (h : 1 ≤ s
     blocks-fit = omega arith;
   }
 
-  fields-cases : Cases size c s main store (Fields c)
-  unfolding noOperation defineExtent locate sense senseType readLog read write readIpl seen after extentSet locateSet fetched delivered
+  fields-cases : Cases dev c s main store (Fields c)
+  unfolding noOperation defineExtent defineDone locate locateDone sense senseType readLog read readDone write writeDone readIpl iplDone seen after extentSet locateSet fetched delivered
   fields-cases =
       let k = seen-record in
       record {
         refusal = λ w _ e. refused-fields w e;
         no-operation = λ _. record { unit-fields = k; main-bytes = m; store-bytes = d; cause-byte = omega arith; moved-fits = omega arith; blocks-fit = omega arith };
-        define-extent = λ _ _ f. record { unit-fields = k; main-bytes = m; store-bytes = d; cause-byte = omega arith; moved-fits = define-ok size _ c s _ f .long; blocks-fit = omega arith };
+        define-extent = λ _ _ f. record { unit-fields = k; main-bytes = m; store-bytes = d; cause-byte = omega arith; moved-fits = define-ok dev _ c s _ f .long; blocks-fit = omega arith };
         locate = λ _ _ f. record { unit-fields = movement-counted-record _ k; main-bytes = m; store-bytes = d; cause-byte = omega arith; moved-fits = locate-ok c s _ f .long; blocks-fit = omega arith };
         read = λ _ _ _. record {
           unit-fields = read-counted-record _ _ k;
-          main-bytes = bytes-put main _ _ m (bytes-take (min (c .count) (s .located .blocks * size)) _ (blocks-from-bytes size store _ _ d));
+          main-bytes = bytes-put main _ _ m (bytes-take (min (c .count) (s .located .blocks * dev .block)) _ (blocks-from-bytes dev store _ _ d));
           store-bytes = d;
           cause-byte = omega arith;
           moved-fits = omega arith;
-          blocks-fit = omega (arith, begun-least size (min (c .count) (s .located .blocks * size)) h);
+          blocks-fit = omega (arith, begun-least dev (min (c .count) (s .located .blocks * dev .block)) h);
         };
         write = λ _ _ _. record {
           unit-fields = pick-ind IsRecord _ _ _ (λ _. written-counted-record _ _ k) (λ _. k);
           main-bytes = m;
-          store-bytes = blocks-into-bytes size store _ _ _ d (bytes-part main _ _ m);
+          store-bytes = blocks-into-bytes dev store _ _ _ d (bytes-part main _ _ m);
           cause-byte = omega arith;
           moved-fits = omega arith;
-          blocks-fit = omega (arith, begun-least size (min (c .count) (s .located .blocks * size)) h);
+          blocks-fit = omega (arith, begun-least dev (min (c .count) (s .located .blocks * dev .block)) h);
         };
         read-ipl = λ a _ _. record {
           unit-fields = movement-counted-record _ (read-counted-record 1 _ k);
-          main-bytes = bytes-put main _ _ m (bytes-take (min (c .count) size) _ (blocks-from-bytes size store 0 1 d));
+          main-bytes = bytes-put main _ _ m (bytes-take (min (c .count) (dev .block)) _ (blocks-from-bytes dev store 0 1 d));
           store-bytes = d;
           cause-byte = omega arith;
           moved-fits = omega arith;
@@ -309,5 +311,21 @@ module _ (size : ℕ) (c : Ccw) (s : State) (main store : List ℕ) (h : 1 ≤ s
         read-log = λ _ _. sent-fields 24 _ _ (log-bytes _ k) (log-reset-record _ k);
       }
 
-  pub step-fields : Fields c (step size c s main store)
-  step-fields = step-cases size c s main store (Fields c) fields-cases
+  pub step-fields : Fields c (step dev c s main store)
+  step-fields = step-cases dev c s main store (Fields c) fields-cases
+
+-- a command moves no more blocks than bytes
+pub step-blocks : (dev : Device) (c : Ccw) (s : State) (main store : List ℕ) → 1 ≤ dev .block → step dev c s main store .done .blocks ≤ c .count
+unfolding noOperation defineExtent defineDone locate locateDone read readDone write writeDone readIpl iplDone sense senseType readLog sent refused
+step-blocks dev c s main store h = step-cases dev c s main store (λ o. o .done .blocks ≤ c .count) (record {
+  refusal = λ _ _ _. omega arith;
+  no-operation = λ _. omega arith;
+  define-extent = λ _ _ _. omega arith;
+  locate = λ _ _ _. omega arith;
+  read = λ _ _ _. omega (arith, begun-least dev (min (c .count) (seen c s .located .blocks * dev .block)) h);
+  write = λ _ _ _. omega (arith, begun-least dev (min (c .count) (seen c s .located .blocks * dev .block)) h);
+  read-ipl = λ a _ _. omega (arith, a .some);
+  sense = λ _ _. omega arith;
+  sense-type = λ _ _. omega arith;
+  read-log = λ _ _. omega arith;
+})

@@ -26,47 +26,48 @@ use Rattle.model.proofs.Refusals.{call-refused, host-refused}
 use Rattle.model.proofs.Lengths.{call-lengths}
 use Rattle.model.proofs.Kept.{call-bytes}
 use Rattle.model.proofs.Records.{record-bytes-length, record-bytes, record-of, bytes-back}
+use Rattle.model.specs.declared.device.Device.{Device}
 
 pub result-reads : (cause reached : ℕ) → reached < 256 → (resultOf cause reached / 256 ≡ cause) × (resultOf cause reached % 256 ≡ reached)
 unfolding resultOf
 result-reads cause reached h = (omega arith, omega arith)
 
-module _ (size : ℕ) (chain main store unit answers : List ℕ) where
+module _ (dev : Device) (chain main store unit answers : List ℕ) where
   -- none of 1 to 6 holds: none of 1 to 5 does, and there are 34 bytes
-  pub host-passed : firstOf (hostCauses size chain main store unit answers) ≡ 0 → (firstOf (callCauses size chain main store answers) ≡ 0) × (length unit ≡ recordSize)
+  pub host-passed : firstOf (hostCauses dev chain main store unit answers) ≡ 0 → (firstOf (callCauses dev chain main store answers) ≡ 0) × (length unit ≡ recordSize)
   unfolding hostCauses callCauses
   host-passed e =
-      let f = failed-upto 0 (callCauses size chain main store answers) _ refl e in
+      let f = failed-upto 0 (callCauses dev chain main store answers) _ refl e in
       let g = failed-all 0 _ refl (f .1) in
       (none-given _ (f .0), eqb-true _ _ (not-false _ (g .0)))
 
   -- the verdict of 1 to 6, by that of 1 to 5
-  host-verdict : firstOf (hostCauses size chain main store unit answers)
-      ≡ pick (firstOf (callCauses size chain main store answers) =? 0) (pick (not (length unit =? recordSize)) 6 0) (firstOf (callCauses size chain main store answers))
+  host-verdict : firstOf (hostCauses dev chain main store unit answers)
+      ≡ pick (firstOf (callCauses dev chain main store answers) =? 0) (pick (not (length unit =? recordSize)) 6 0) (firstOf (callCauses dev chain main store answers))
   unfolding hostCauses callCauses firstOf
-  host-verdict = first-append (callCauses size chain main store answers) (6 when not (length unit =? recordSize) ∷ []) refl
+  host-verdict = first-append (callCauses dev chain main store answers) (6 when not (length unit =? recordSize) ∷ []) refl
 
-  same-verdict : length unit ≡ recordSize → firstOf (hostCauses size chain main store unit answers) ≡ firstOf (callCauses size chain main store answers)
+  same-verdict : length unit ≡ recordSize → firstOf (hostCauses dev chain main store unit answers) ≡ firstOf (callCauses dev chain main store answers)
   same-verdict e =
-      let w : ℕ = firstOf (callCauses size chain main store answers) in
+      let w : ℕ = firstOf (callCauses dev chain main store answers) in
       host-verdict ∙ rw (eq-eqb _ _ e) (pick-ind (λ (v : ℕ). v ≡ w) (w =? 0) _ w (λ b. pick-false _ 6 0 refl ∙ sym (eqb-true _ _ b)) (λ _. refl))
 
-  pub host-is-call : length unit ≡ recordSize → hostCallOf size chain main store unit answers ≡ hosted (callOf size chain main store (recordOf unit) answers)
+  pub host-is-call : length unit ≡ recordSize → hostCallOf dev chain main store unit answers ≡ hosted (callOf dev chain main store (recordOf unit) answers)
   unfolding hostCallOf
   host-is-call e =
       rw (same-verdict e)
-      (pick-ind (λ (r : Hosted). r ≡ hosted (callOf size chain main store (recordOf unit) answers)) _ _ _ (λ _. refl)
-      (λ b. rw (call-refused size chain main store (recordOf unit) answers _ refl (eqb-false _ _ b), bytes-back unit e)))
+      (pick-ind (λ (r : Hosted). r ≡ hosted (callOf dev chain main store (recordOf unit) answers)) _ _ _ (λ _. refl)
+      (λ b. rw (call-refused dev chain main store (recordOf unit) answers _ refl (eqb-false _ _ b), bytes-back unit e)))
 
-  pub host-call-refused : (w : ℕ) → firstOf (callCauses size chain main store answers) ≡ w → (w ≡ 0 → ⊥)
-      → hostCallOf size chain main store unit answers ≡ record { result = resultOf w 0; main = main; store = store; unit = unit; answers = answers }
-  host-call-refused w e n = host-refused size chain main store unit answers w (host-verdict ∙ rw e (pick-false _ _ _ (ne-eqb _ _ n))) n
+  pub host-call-refused : (w : ℕ) → firstOf (callCauses dev chain main store answers) ≡ w → (w ≡ 0 → ⊥)
+      → hostCallOf dev chain main store unit answers ≡ record { result = resultOf w 0; main = main; store = store; unit = unit; answers = answers }
+  host-call-refused w e n = host-refused dev chain main store unit answers w (host-verdict ∙ rw e (pick-false _ _ _ (ne-eqb _ _ n))) n
 
-  pub host-no-record : (w : ℕ) → (length unit ≡ recordSize → ⊥) → firstOf (callCauses size chain main store answers) ≡ w
-      → hostCallOf size chain main store unit answers ≡ record { result = resultOf (pick (w =? 0) 6 w) 0; main = main; store = store; unit = unit; answers = answers }
+  pub host-no-record : (w : ℕ) → (length unit ≡ recordSize → ⊥) → firstOf (callCauses dev chain main store answers) ≡ w
+      → hostCallOf dev chain main store unit answers ≡ record { result = resultOf (pick (w =? 0) 6 w) 0; main = main; store = store; unit = unit; answers = answers }
   host-no-record w n e =
-      let v : firstOf (hostCauses size chain main store unit answers) ≡ pick (w =? 0) 6 w = host-verdict ∙ rw (ne-eqb _ _ n, e) (ap (λ (x : ℕ). pick (w =? 0) x w) (pick-true _ 6 0 refl)) in
-      host-refused size chain main store unit answers _ v (pick-ind (λ (x : ℕ). x ≡ 0 → ⊥) (w =? 0) 6 w (λ _ z. omega arith) (λ b. eqb-false _ _ b))
+      let v : firstOf (hostCauses dev chain main store unit answers) ≡ pick (w =? 0) 6 w = host-verdict ∙ rw (ne-eqb _ _ n, e) (ap (λ (x : ℕ). pick (w =? 0) x w) (pick-true _ 6 0 refl)) in
+      host-refused dev chain main store unit answers _ v (pick-ind (λ (x : ℕ). x ≡ 0 → ⊥) (w =? 0) 6 w (λ _ z. omega arith) (λ b. eqb-false _ _ b))
 
 pub set-up-record : (unit : List ℕ) (ready readOnly : ℕ) → length unit ≡ recordSize → setUp unit ready readOnly ≡ record { result = 0; unit = recordBytes (newRecord ready readOnly) }
 unfolding setUp resultOf
@@ -86,15 +87,15 @@ pub record HostKeeps (main store unit answers : List ℕ) (r : Hosted) : Type 0 
   pub unit-bytes : AreBytes (r .unit)
   pub answers-bytes : AreBytes (r .answers)
 
-pub host-keeps : (size : ℕ) (chain main store unit answers : List ℕ) → AreBytes chain → AreBytes main → AreBytes store → AreBytes unit → AreBytes answers
-    → HostKeeps main store unit answers (hostCallOf size chain main store unit answers)
+pub host-keeps : (dev : Device) (chain main store unit answers : List ℕ) → AreBytes chain → AreBytes main → AreBytes store → AreBytes unit → AreBytes answers
+    → HostKeeps main store unit answers (hostCallOf dev chain main store unit answers)
 unfolding hostCallOf
-host-keeps size chain main store unit answers b m d u a =
+host-keeps dev chain main store unit answers b m d u a =
     pick-ind (HostKeeps main store unit answers) _ _ _
     (λ e.
-    let p = host-passed size chain main store unit answers (eqb-true _ _ e) in
-    let l = call-lengths size chain main store (recordOf unit) answers in
-    let g = call-bytes size chain main store (recordOf unit) answers b m d (record-of unit (p .1) u) a in
+    let p = host-passed dev chain main store unit answers (eqb-true _ _ e) in
+    let l = call-lengths dev chain main store (recordOf unit) answers in
+    let g = call-bytes dev chain main store (recordOf unit) answers b m d (record-of unit (p .1) u) a in
     record {
       main-length = l .main-length;
       store-length = l .store-length;

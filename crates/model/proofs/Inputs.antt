@@ -22,7 +22,7 @@ theUnit l = call (l .chain) (l .main) (l .store) (l .unit) (l .answers)
 -- block i is filled with byte i
 abbrev pub device : ℕ → List ℕ
 device zero = []
-device (suc n) = device n ++ replicate classA n
+device (suc n) = device n ++ replicate (classA .block) n
 
 -- a ready unit that may be written, and answers that are full of FF
 abbrev pub lent : ℕ → List ℕ → List ℕ → Lent

@@ -17,13 +17,15 @@ use Rattle.numbers.proofs.Big.{bytes2-are, bytes2-hold, be2-fits}
 use Rattle.slices.proofs.Laws.{bytes-put}
 use Rattle.model.specs.declared.ccw.Ccw.{Ccw}
 use Rattle.model.specs.declared.record.Record.{Record}
+use Rattle.model.specs.declared.device.Device.{Device}
 use Rattle.model.specs.State.{Done}
 use Rattle.model.specs.Rules.{firstOf}
 use Rattle.model.specs.Lent.{ccwSize, ccwAt, blockCount}
-use Rattle.model.specs.Causes.{callCauses}
-use Rattle.model.specs.Answer.{unitStatus, channelStatus, residual, answerOf}
+use Rattle.model.specs.Causes.{callCauses, kindOf}
+use Rattle.model.specs.Answer.{channelStatus, residual, answerOf, wrongLength}
 use Rattle.model.specs.Chain.{System, system, stepAt, next, run, start, Called, called, callOf}
 use Rattle.numbers.proofs.Choice.{pick-ind}
+use Rattle.model.proofs.Leaving.{status-byte, channel-byte}
 use Rattle.model.proofs.Endings.{callable}
 use Rattle.model.proofs.Lengths.{some-block}
 use Rattle.model.proofs.Fields.{IsRecord, step-fields}
@@ -37,14 +39,12 @@ pub record Holds (c : Ccw) (d : Done) : Type 0 where
   pub blocks-whole : be2 (answerOf c d) 6 ≡ d .blocks
 
 pub answer-holds : (c : Ccw) (d : Done) → c .count < 65536 → d .cause < 256 → d .blocks < 65536 → Holds c d
-unfolding answerOf unitStatus channelStatus residual
+unfolding answerOf channelStatus residual
 answer-holds c d n w b =
-    let Byte : ℕ → Type 0 = λ k. k < 256 in
     record {
       are-bytes =
           bytes-append _ _ (bytes-append _ _ (bytes-append _ _
-          (bytes-cons _ _ (pick-ind Byte _ _ _ (λ _. omega arith) (λ _. pick-ind Byte _ _ _ (λ _. omega arith) (λ _. omega arith)))
-          (bytes-cons _ _ (pick-ind Byte _ _ _ (λ _. pick-ind Byte _ _ _ (λ _. omega arith) (λ _. omega arith)) (λ _. pick-ind Byte _ _ _ (λ _. omega arith) (λ _. omega arith))) bytes-nil))
+          (bytes-cons _ _ (status-byte (kindOf (d .cause))) (bytes-cons _ _ (channel-byte (kindOf (d .cause)) (wrongLength c (d .can))) bytes-nil))
           (bytes2-are _)) (bytes-cons _ _ w (bytes-cons _ _ (omega arith) bytes-nil))) (bytes2-are _);
       residual-whole = bytes2-hold (c .count - d .moved) (omega arith);
       cause-whole = refl;
@@ -63,12 +63,12 @@ pub count-fits : (chain : List ℕ) (i : ℕ) → AreBytes chain → ccwAt chain
 unfolding ccwAt
 count-fits chain i b = be2-fits chain _ b
 
-module _ (size : ℕ) (chain : List ℕ) (h : 1 ≤ size) (b : AreBytes chain) where
-  pub next-bytes : (i : ℕ) (y : System) → IsLent y → IsLent (next size chain i y)
+module _ (dev : Device) (chain : List ℕ) (h : 1 ≤ dev .block) (b : AreBytes chain) where
+  pub next-bytes : (i : ℕ) (y : System) → IsLent y → IsLent (next dev chain i y)
   unfolding next stepAt
   next-bytes i y l =
       let c : Ccw = ccwAt chain i in
-      let f = step-fields size c (y .state) (y .main) (y .store) h (l .unit-fields) (l .main-bytes) (l .store-bytes) in
+      let f = step-fields dev c (y .state) (y .main) (y .store) h (l .unit-fields) (l .main-bytes) (l .store-bytes) in
       let n = count-fits chain i b in
       record {
         unit-fields = f .unit-fields;
@@ -77,19 +77,22 @@ module _ (size : ℕ) (chain : List ℕ) (h : 1 ≤ size) (b : AreBytes chain) w
         answers-bytes = bytes-put (y .answers) _ _ (l .answers-bytes) (answer-holds c _ n (f .cause-byte) (omega (arith, n, f .blocks-fit)) .are-bytes);
       }
 
-  run-bytes : (n i : ℕ) (y : System) → IsLent y → IsLent (run size chain n i y)
+  run-bytes : (n i : ℕ) (y : System) → IsLent y → IsLent (run dev chain n i y)
   unfolding run
   run-bytes zero i y l = l
   run-bytes (suc n) i y l =
       let k = next-bytes i y l in
-      pick-ind IsLent _ _ _ (λ _. run-bytes n (i + 1) (next size chain i y) k) (λ _. k)
+      pick-ind IsLent _ _ _ (λ _. run-bytes n (i + 1) (next dev chain i y) k) (λ _. k)
 
 -- the call
 
-pub some-size : (size : ℕ) (store : List ℕ) → 0 < blockCount size store → 1 ≤ size
+pub some-size : (dev : Device) (store : List ℕ) → 0 < blockCount dev store → 1 ≤ dev .block
 unfolding blockCount
-some-size zero store h = absurd (not-suc-le-zero (rw div-zero at h))
-some-size (suc size) store h = omega arith
+some-size dev store h = go (dev .block) h
+  where
+    go : (n : ℕ) → 0 < length store / n → 1 ≤ n
+    go zero h = absurd (not-suc-le-zero (rw div-zero at h))
+    go (suc n) h = omega arith
 
 pub record GivesBytes (r : Called) : Type 0 where
   pub unit-fields : IsRecord (r .unit)
@@ -97,17 +100,17 @@ pub record GivesBytes (r : Called) : Type 0 where
   pub store-bytes : AreBytes (r .store)
   pub answers-bytes : AreBytes (r .answers)
 
-pub call-bytes : (size : ℕ) (chain main store : List ℕ) (u : Record) (answers : List ℕ)
+pub call-bytes : (dev : Device) (chain main store : List ℕ) (u : Record) (answers : List ℕ)
     → AreBytes chain → AreBytes main → AreBytes store → IsRecord u → AreBytes answers
-    → GivesBytes (callOf size chain main store u answers)
+    → GivesBytes (callOf dev chain main store u answers)
 unfolding callOf start
-call-bytes size chain main store u answers b m d r a =
+call-bytes dev chain main store u answers b m d r a =
     let y : System = system (start u) main store answers 0 in
     let l : IsLent y = record { unit-fields = r; main-bytes = m; store-bytes = d; answers-bytes = a } in
-    let gives : (z : System) → IsLent z → GivesBytes (called (firstOf (callCauses size chain main store answers)) z)
+    let gives : (z : System) → IsLent z → GivesBytes (called (firstOf (callCauses dev chain main store answers)) z)
     = λ z k. record { unit-fields = k .unit-fields; main-bytes = k .main-bytes; store-bytes = k .store-bytes; answers-bytes = k .answers-bytes } in
     gives _ (pick-ind IsLent _ _ _
     (λ e.
-    let k = callable size chain main store answers (eqb-true _ _ e) in
-    run-bytes size chain (some-size size store (some-block size store (k .stored) (k .even))) b (length chain / ccwSize) 0 y l)
+    let k = callable dev chain main store answers (eqb-true _ _ e) in
+    run-bytes dev chain (some-size dev store (some-block dev store (k .stored) (k .even))) b (length chain / ccwSize) 0 y l)
     (λ _. l))

@@ -15,13 +15,14 @@ use Rattle.slices.specs.Parts.{pad}
 use Rattle.slices.proofs.Laws.{length-put, length-pad}
 use Rattle.model.specs.declared.ccw.Ccw.{Ccw}
 use Rattle.model.specs.declared.record.Record.{Record}
+use Rattle.model.specs.declared.device.Device.{Device}
 use Rattle.model.specs.State.{State, Done}
 use Rattle.model.specs.Names.{NO-OPERATION}
 use Rattle.model.specs.Rules.{firstOf}
 use Rattle.model.specs.Lent.{ccwSize, ccwAt, delivered, blockStart, blockCount, blocksInto}
 use Rattle.model.specs.Parameters.{address, writes}
 use Rattle.model.specs.Causes.{callCauses}
-use Rattle.model.specs.Commands.{Out, out, noOperation, defineExtent, locate, sent, sense, senseType, readLog, read, write, readIpl, refused, refusal, seen, after, step}
+use Rattle.model.specs.Commands.{Out, out, noOperation, defineExtent, locate, sent, sense, senseType, readLog, read, write, readIpl, refused, refusal, seen, after, step, defineDone, iplDone, locateDone, readDone, writeDone}
 use Rattle.model.specs.Answer.{answerSize, answerOf}
 use Rattle.model.specs.Chain.{System, system, stepAt, next, run, start, Called, called, callOf}
 use Rattle.model.specs.Safe.{Safe}
@@ -30,12 +31,12 @@ use Rattle.model.proofs.Steps.{Admitted, Cases, step-cases}
 use Rattle.model.proofs.Endings.{callable}
 use Rattle.model.proofs.Safety.{on-device, after-locate, safe-start, step-safe}
 
-pub blocks-into-length : (size : ℕ) (store : List ℕ) (block n : ℕ) (bytes : List ℕ) → (block + n) * size ≤ length store → length (blocksInto size store block n bytes) ≡ length store
+pub blocks-into-length : (dev : Device) (store : List ℕ) (block n : ℕ) (bytes : List ℕ) → (block + n) * dev .block ≤ length store → length (blocksInto dev store block n bytes) ≡ length store
 unfolding blocksInto blockStart
-blocks-into-length size store block zero bytes h = refl
-blocks-into-length size store block (suc n) bytes h =
-    let e = length-put store (block * size) (pad size bytes) (rw (length-pad size bytes) (omega arith)) in
-    blocks-into-length size _ (block + 1) n (drop size bytes) (rw e (omega arith)) ∙ e
+blocks-into-length dev store block zero bytes h = refl
+blocks-into-length dev store block (suc n) bytes h =
+    let e = length-put store (block * dev .block) (pad (dev .block) bytes) (rw (length-pad (dev .block) bytes) (omega arith)) in
+    blocks-into-length dev _ (block + 1) n (drop (dev .block) bytes) (rw e (omega arith)) ∙ e
 
 -- a command moves no more than its count
 delivered-length : (c : Ccw) (main : List ℕ) (can : ℕ) (bytes : List ℕ) → c .address + c .count ≤ length main → length (delivered c main (take (min (c .count) can) bytes)) ≡ length main
@@ -43,9 +44,9 @@ unfolding delivered
 delivered-length c main can bytes h = length-put main (c .address) _ (rw length-take (omega arith))
 
 -- blocks of the device lie in the store
-pub in-store : (size : ℕ) (store : List ℕ) (n : ℕ) → n ≤ blockCount size store → n * size ≤ length store
+pub in-store : (dev : Device) (store : List ℕ) (n : ℕ) → n ≤ blockCount dev store → n * dev .block ≤ length store
 unfolding blockCount
-in-store size store n h = omega (arith, mul-le-mul-right size h, div-mul-le-self (length store) size)
+in-store dev store n h = omega (arith, mul-le-mul-right (dev .block) h, div-mul-le-self (length store) (dev .block))
 
 -- one command
 
@@ -53,9 +54,9 @@ pub record SameLengths (main store : List ℕ) (o : Out) : Type 0 where
   pub main-length : length (o .main) ≡ length main
   pub store-length : length (o .store) ≡ length store
 
-module _ (size : ℕ) (c : Ccw) (s : State) (main store : List ℕ) (h : Safe s (blockCount size store)) where
-  lengths-cases : Cases size c s main store (SameLengths main store)
-  unfolding noOperation defineExtent locate sent sense senseType readLog read write readIpl refused refusal seen after
+module _ (dev : Device) (c : Ccw) (s : State) (main store : List ℕ) (h : Safe s (blockCount dev store)) where
+  lengths-cases : Cases dev c s main store (SameLengths main store)
+  unfolding noOperation defineExtent defineDone locate locateDone sent sense senseType readLog read readDone write writeDone readIpl iplDone refused seen after
   lengths-cases =
       let same : (d : Done) → SameLengths main store (out d main store) = λ d. record { main-length = refl; store-length = refl } in
       let moved : (d : Done) (can : ℕ) (bytes : List ℕ) → Admitted c main → (c .command ≡ NO-OPERATION → ⊥)
@@ -69,7 +70,7 @@ module _ (size : ℕ) (c : Ccw) (s : State) (main store : List ℕ) (h : Safe s 
         read = λ a x _. moved _ _ _ a (λ y. omega arith);
         write = λ _ _ f. record {
           main-length = refl;
-          store-length = blocks-into-length size store _ _ _ (in-store size store _ (on-device s _ h (after-locate writes s f)));
+          store-length = blocks-into-length dev store _ _ _ (in-store dev store _ (on-device s _ h (after-locate writes s f)));
         };
         read-ipl = λ a x _. moved _ _ _ a (λ y. omega arith);
         sense = λ a x. moved _ _ _ a (λ y. omega arith);
@@ -77,42 +78,42 @@ module _ (size : ℕ) (c : Ccw) (s : State) (main store : List ℕ) (h : Safe s 
         read-log = λ a x. moved _ _ _ a (λ y. omega arith);
       }
 
-  pub step-lengths : SameLengths main store (step size c s main store)
-  step-lengths = step-cases size c s main store (SameLengths main store) lengths-cases
+  pub step-lengths : SameLengths main store (step dev c s main store)
+  step-lengths = step-cases dev c s main store (SameLengths main store) lengths-cases
 
 -- the chain
 
 -- what holds between two commands of a chain, of the system there and the one that it began with
-pub record Going (size : ℕ) (first y : System) : Type 0 where
+pub record Going (dev : Device) (first y : System) : Type 0 where
   pub main-length : length (y .main) ≡ length (first .main)
   pub store-length : length (y .store) ≡ length (first .store)
   pub answers-length : length (y .answers) ≡ length (first .answers)
-  pub safe : Safe (y .state) (blockCount size (y .store))
+  pub safe : Safe (y .state) (blockCount dev (y .store))
 
 pub answer-length : (c : Ccw) (d : Done) → length (answerOf c d) ≡ answerSize
 unfolding answerOf
 answer-length c d = refl
 
-module _ (size : ℕ) (chain : List ℕ) (first : System) (some : 0 < blockCount size (first .store)) where
-  pub next-going : (i : ℕ) (y : System) → i * answerSize + answerSize ≤ length (first .answers) → Going size first y → Going size first (next size chain i y)
+module _ (dev : Device) (chain : List ℕ) (first : System) (some : 0 < blockCount dev (first .store)) where
+  pub next-going : (i : ℕ) (y : System) → i * answerSize + answerSize ≤ length (first .answers) → Going dev first y → Going dev first (next dev chain i y)
   unfolding next stepAt blockCount
   next-going i y h g =
       let c : Ccw = ccwAt chain i in
-      let l = step-lengths size c (y .state) (y .main) (y .store) (g .safe) in
-      let more : 0 < length (y .store) / size = rw (g .store-length) some in
+      let l = step-lengths dev c (y .state) (y .main) (y .store) (g .safe) in
+      let more : 0 < length (y .store) / dev .block = rw (g .store-length) some in
       record {
         main-length = l .main-length ∙ g .main-length;
         store-length = l .store-length ∙ g .store-length;
         answers-length = length-put (y .answers) (i * answerSize) _ (rw (answer-length, g .answers-length) h) ∙ g .answers-length;
-        safe = rw (l .store-length) (step-safe size c (y .state) (y .main) (y .store) more (g .safe));
+        safe = rw (l .store-length) (step-safe dev c (y .state) (y .main) (y .store) more (g .safe));
       }
 
-  pub run-going : (n i : ℕ) (y : System) → (i + n) * answerSize ≤ length (first .answers) → Going size first y → Going size first (run size chain n i y)
+  pub run-going : (n i : ℕ) (y : System) → (i + n) * answerSize ≤ length (first .answers) → Going dev first y → Going dev first (run dev chain n i y)
   unfolding run
   run-going zero i y h g = g
   run-going (suc n) i y h g =
       let k = next-going i y (omega arith) g in
-      pick-ind (Going size first) _ _ _ (λ _. run-going n (i + 1) (next size chain i y) (omega arith) k) (λ _. k)
+      pick-ind (Going dev first) _ _ _ (λ _. run-going n (i + 1) (next dev chain i y) (omega arith) k) (λ _. k)
 
 -- the call
 
@@ -121,22 +122,22 @@ pub record SameSizes (main store answers : List ℕ) (r : Called) : Type 0 where
   pub store-length : length (r .store) ≡ length store
   pub answers-length : length (r .answers) ≡ length answers
 
-pub some-block : (size : ℕ) (store : List ℕ) → (length store ≡ 0 → ⊥) → length store % size ≡ 0 → 0 < blockCount size store
+pub some-block : (dev : Device) (store : List ℕ) → (length store ≡ 0 → ⊥) → length store % dev .block ≡ 0 → 0 < blockCount dev store
 unfolding blockCount
-some-block size store n e = go (length store / size) refl
+some-block dev store n e = go (length store / dev .block) refl
   where
-    go : (k : ℕ) → length store / size ≡ k → 0 < k
-    go zero z = absurd (n (sym (div-add-mod (length store) size) ∙ rw (z, e, mul-zero) refl))
+    go : (k : ℕ) → length store / dev .block ≡ k → 0 < k
+    go zero z = absurd (n (sym (div-add-mod (length store) (dev .block)) ∙ rw (z, e, mul-zero) refl))
     go (suc k) z = omega arith
 
-pub call-lengths : (size : ℕ) (chain main store : List ℕ) (u : Record) (answers : List ℕ) → SameSizes main store answers (callOf size chain main store u answers)
+pub call-lengths : (dev : Device) (chain main store : List ℕ) (u : Record) (answers : List ℕ) → SameSizes main store answers (callOf dev chain main store u answers)
 unfolding callOf
-call-lengths size chain main store u answers =
+call-lengths dev chain main store u answers =
     let y : System = system (start u) main store answers 0 in
-    pick-ind (λ (z : System). SameSizes main store answers (called (firstOf (callCauses size chain main store answers)) z)) _ _ _
+    pick-ind (λ (z : System). SameSizes main store answers (called (firstOf (callCauses dev chain main store answers)) z)) _ _ _
     (λ b.
-    let k = callable size chain main store answers (eqb-true _ _ b) in
-    let g = run-going size chain y (some-block size store (k .stored) (k .even)) (length chain / ccwSize) 0 y (omega (arith, k .whole, k .answered))
+    let k = callable dev chain main store answers (eqb-true _ _ b) in
+    let g = run-going dev chain y (some-block dev store (k .stored) (k .even)) (length chain / ccwSize) 0 y (omega (arith, k .whole, k .answered))
     (record { main-length = refl; store-length = refl; answers-length = refl; safe = safe-start u _ }) in
     record { main-length = g .main-length; store-length = g .store-length; answers-length = g .answers-length })
     (λ _. record { main-length = refl; store-length = refl; answers-length = refl })

@@ -1,4 +1,5 @@
 pub mod Verdicts
+pub mod Leaving
 pub mod Steps
 pub mod Refusals
 pub mod Endings

@@ -16,6 +16,7 @@ use borrow.Author.Tests.{eqb-true, eqb-false}
 use Rattle.slices.proofs.Laws.{by-place}
 use Rattle.model.specs.declared.ccw.Ccw.{Ccw}
 use Rattle.model.specs.declared.record.Record.{Record}
+use Rattle.model.specs.declared.device.Device.{Device}
 use Rattle.model.specs.State.{Done}
 use Rattle.model.specs.Names.{chain-command}
 use Rattle.numbers.specs.Choice.{_=?_}
@@ -36,13 +37,13 @@ use Rattle.model.proofs.Alike.{parameter-same, Place, Sound, States, Ma
 use Rattle.model.proofs.AlikeVerdicts.{Fits}
 use Rattle.model.proofs.AlikeCommands.{step-alike}
 
-pub record Alike (size : ℕ) (F : Place) (y z : System) : Type 0 where
+pub record Alike (dev : Device) (F : Place) (y z : System) : Type 0 where
   pub states : States F (y .state) (z .state)
   pub mains : Mains F (y .main) (z .main)
-  pub stores : Stores size F (y .store) (z .store)
+  pub stores : Stores dev F (y .store) (z .store)
   pub answers : y .answers ≡ z .answers
   pub reached : y .reached ≡ z .reached
-  pub safe : Safe (y .state) (blockCount size (y .store))
+  pub safe : Safe (y .state) (blockCount dev (y .store))
 
 -- the answer
 
@@ -65,22 +66,22 @@ goes-chained c d b = both-true (d .cause =? 0 && channelStatus c d =? 0) (flag c
 
 -- the chain
 
-module _ (size : ℕ) (F : Place) (k : Sound size F) (chain : List ℕ) (fits : (i : ℕ) → InChain chain i → Fits F (ccwAt chain i)) where
-  at-alike : (i : ℕ) (y z : System) → InChain chain i → Alike size F y z → Outs size F (stepAt size chain i y) (stepAt size chain i z)
+module _ (dev : Device) (F : Place) (k : Sound dev F) (chain : List ℕ) (fits : (i : ℕ) → InChain chain i → Fits F (ccwAt chain i)) where
+  at-alike : (i : ℕ) (y z : System) → InChain chain i → Alike dev F y z → Outs dev F (stepAt dev chain i y) (stepAt dev chain i z)
   unfolding stepAt
-  at-alike i y z c a = step-alike size F k (ccwAt chain i) (fits i c) _ _ (a .states) _ _ (a .mains) _ _ (a .stores) (a .safe)
+  at-alike i y z c a = step-alike dev F k (ccwAt chain i) (fits i c) _ _ (a .states) _ _ (a .mains) _ _ (a .stores) (a .safe)
 
   -- a command leaves the state safe on the store that it leaves
-  at-safe : (i : ℕ) (y : System) (store : List ℕ) → 0 < blockCount size (y .store) → Safe (y .state) (blockCount size (y .store)) → length (y .store) ≡ length store
-      → Safe (stepAt size chain i y .done .state) (blockCount size store)
+  at-safe : (i : ℕ) (y : System) (store : List ℕ) → 0 < blockCount dev (y .store) → Safe (y .state) (blockCount dev (y .store)) → length (y .store) ≡ length store
+      → Safe (stepAt dev chain i y .done .state) (blockCount dev store)
   unfolding stepAt
-  at-safe i y store some safe long = rw (← (count-same size (y .store) store long)) (step-safe size (ccwAt chain i) (y .state) (y .main) (y .store) some safe)
+  at-safe i y store some safe long = rw (← (count-same dev (y .store) store long)) (step-safe dev (ccwAt chain i) (y .state) (y .main) (y .store) some safe)
 
-  next-alike : (i : ℕ) (y z : System) → InChain chain i → Alike size F y z → Alike size F (next size chain i y) (next size chain i z)
+  next-alike : (i : ℕ) (y z : System) → InChain chain i → Alike dev F y z → Alike dev F (next dev chain i y) (next dev chain i z)
   unfolding next
   next-alike i y z c a =
       let o = at-alike i y z c a in
-      let some : 0 < blockCount size (y .store) = rw (count-same size (y .store) (F .store) (a .stores .long)) (omega (arith, k .room)) in
+      let some : 0 < blockCount dev (y .store) = rw (count-same dev (y .store) (F .store) (a .stores .long)) (omega (arith, k .room)) in
       record {
         states = o .dones .states;
         mains = o .mains;
@@ -90,20 +91,20 @@ module _ (size : ℕ) (F : Place) (k : Sound size F) (chain : List ℕ) (fits : 
         safe = at-safe i y _ some (a .safe) (a .stores .long ∙ sym (o .stores .long));
       }
 
-  more-same : (i : ℕ) (y z : System) → InChain chain i → Alike size F y z → more size chain i y ≡ more size chain i z
+  more-same : (i : ℕ) (y z : System) → InChain chain i → Alike dev F y z → more dev chain i y ≡ more dev chain i z
   unfolding more
   more-same i y z c a = goes-same F (ccwAt chain i) _ _ (at-alike i y z c a .dones)
 
-  run-alike : (n i : ℕ) (y z : System) → i + n ≤ length chain / ccwSize → ((j : ℕ) → j < i → flag (ccwAt chain j) chain-command ≡ true) → Alike size F y z
-      → Alike size F (run size chain n i y) (run size chain n i z)
+  run-alike : (n i : ℕ) (y z : System) → i + n ≤ length chain / ccwSize → ((j : ℕ) → j < i → flag (ccwAt chain j) chain-command ≡ true) → Alike dev F y z
+      → Alike dev F (run dev chain n i y) (run dev chain n i z)
   unfolding run more
   run-alike zero i y z l p a = a
   run-alike (suc n) i y z l p a =
       let c : InChain chain i = record { lent = omega arith; chained = p } in
       let b = next-alike i y z c a in
       rw (← (more-same i y z c a))
-      (pick-both (Alike size F) (more size chain i y) _ _ _ _
-      (λ m. run-alike n (i + 1) (next size chain i y) (next size chain i z) (omega arith)
+      (pick-both (Alike dev F) (more dev chain i y) _ _ _ _
+      (λ m. run-alike n (i + 1) (next dev chain i y) (next dev chain i z) (omega arith)
       (λ j q. by-place (flag (ccwAt chain j) chain-command ≡ true) j i 1 (p j) (λ r d e. let f : j ≡ i = omega arith in rw f (goes-chained _ _ m)) (λ r. absurd (omega arith))) b)
       (λ _. b))
 
@@ -113,14 +114,14 @@ module _ (size : ℕ) (F : Place) (k : Sound size F) (chain : List ℕ) (fits : 
 place : (c : Ccw) (main main′ store store′ : List ℕ) → Place
 place c main main′ store store′ = record { at = c .address; here = extentAt c main; there = extentAt c main′; store = store; store′ = store′ }
 
-module _ (size : ℕ) (chain : List ℕ) (d : ℕ) (main main′ store store′ : List ℕ) (h : Moved size chain d main main′ store store′) where
+module _ (dev : Device) (chain : List ℕ) (d : ℕ) (main main′ store store′ : List ℕ) (h : Moved dev chain d main main′ store store′) where
   same-parameter : (i : ℕ) → i < extentLength → (Among 4 4 i → ⊥) → getD (fetched (ccwAt chain d) main extentLength) i 0 ≡ getD (fetched (ccwAt chain d) main′ extentLength) i 0
   same-parameter = parameter-same (ccwAt chain d) main main′ (h .typed)
 
   here : Place
   here = place (ccwAt chain d) main main′ store store′
 
-  sound : Sound size here
+  sound : Sound dev here
   unfolding here place extentIn
   sound =
       let far : (i : ℕ) → 8 ≤ i → Among 4 4 i → ⊥ = λ i b k. omega (arith, k) in
@@ -142,7 +143,7 @@ module _ (size : ℕ) (chain : List ℕ) (d : ℕ) (main main′ store store′ 
     no-ipl = h .one .no-ipl i c;
   }
 
-  begin-alike : (u : Record) (answers : List ℕ) → Alike size here (system (start u) main store answers 0) (system (start u) main′ store′ answers 0)
+  begin-alike : (u : Record) (answers : List ℕ) → Alike dev here (system (start u) main store answers 0) (system (start u) main′ store′ answers 0)
   unfolding here place start fetched
   begin-alike u answers = record {
     states = record { unit = refl; defined = refl; before = refl; located = refl; mask = refl; first = refl; last = refl; set = λ e. absurd (false≢true e) };
@@ -153,19 +154,19 @@ module _ (size : ℕ) (chain : List ℕ) (d : ℕ) (main main′ store store′ 
     safe = safe-start u _;
   }
 
-  causes-same : (answers : List ℕ) → callCauses size chain main store answers ≡ callCauses size chain main′ store′ answers
+  causes-same : (answers : List ℕ) → callCauses dev chain main store answers ≡ callCauses dev chain main′ store′ answers
   unfolding callCauses blockCount
   causes-same answers = rw (h .typed .long, h .sizes)
 
   -- a data set can be moved
   pub moved-same : (u : Record) (answers : List ℕ)
-      → SameAfter size chain d main main′ store store′ (callOf size chain main store u answers) (callOf size chain main′ store′ u answers)
+      → SameAfter dev chain d main main′ store store′ (callOf dev chain main store u answers) (callOf dev chain main′ store′ u answers)
   unfolding callOf here place
   moved-same u answers =
       let w = ap firstOf (causes-same answers) in
       let a = begin-alike u answers in
-      let z = pick-both (Alike size here) (firstOf (callCauses size chain main store answers) =? 0) _ _ _ _
-      (λ _. run-alike size here sound chain fits (length chain / ccwSize) 0 _ _ (omega arith) (λ j l. absurd (omega arith)) a) (λ _. a) in
+      let z = pick-both (Alike dev here) (firstOf (callCauses dev chain main store answers) =? 0) _ _ _ _
+      (λ _. run-alike dev here sound chain fits (length chain / ccwSize) 0 _ _ (omega arith) (λ j l. absurd (omega arith)) a) (λ _. a) in
       rw (← w) (record {
         cause = refl;
         reached = z .reached;
@@ -179,15 +180,15 @@ module _ (size : ℕ) (chain : List ℕ) (d : ℕ) (main main′ store store′ 
 
   -- and so it can where C calls
   pub moved-hosted : (unit answers : List ℕ)
-      → SameHosted size chain d main main′ store store′ (hostCallOf size chain main store unit answers) (hostCallOf size chain main′ store′ unit answers)
+      → SameHosted dev chain d main main′ store store′ (hostCallOf dev chain main store unit answers) (hostCallOf dev chain main′ store′ unit answers)
   moved-hosted unit answers = go (length unit =? recordSize) refl
     where
       go : (b : Bool) → length unit =? recordSize ≡ b
-          → SameHosted size chain d main main′ store store′ (hostCallOf size chain main store unit answers) (hostCallOf size chain main′ store′ unit answers)
+          → SameHosted dev chain d main main′ store store′ (hostCallOf dev chain main store unit answers) (hostCallOf dev chain main′ store′ unit answers)
       go true e =
           let s = moved-same (recordOf unit) answers in
           let l = eqb-true _ _ e in
-          rw (host-is-call size chain main store unit answers l, host-is-call size chain main′ store′ unit answers l) (record {
+          rw (host-is-call dev chain main store unit answers l, host-is-call dev chain main′ store′ unit answers l) (record {
             result = rw (s .cause, s .reached);
             answers = s .answers;
             unit = ap recordBytes (s .unit);
@@ -199,7 +200,7 @@ module _ (size : ℕ) (chain : List ℕ) (d : ℕ) (main main′ store store′ 
       go false e =
           let w = ap firstOf (causes-same answers) in
           let n = eqb-false _ _ e in
-          rw (host-no-record size chain main store unit answers _ n w, host-no-record size chain main′ store′ unit answers _ n refl) (record {
+          rw (host-no-record dev chain main store unit answers _ n w, host-no-record dev chain main′ store′ unit answers _ n refl) (record {
             result = refl;
             answers = refl;
             unit = refl;

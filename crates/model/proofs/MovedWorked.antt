@@ -30,7 +30,7 @@ abbrev main : ℕ → ℕ → List ℕ
 main offset count = extent offset 10 11 ++ location write-data 0 1 10 ++ location read-data 0 count 10 ++ replicate 512 0xAA ++ replicate 1024 0xFF
 
 abbrev blocks : ℕ → ℕ → List ℕ
-blocks n byte = replicate (n * classA) byte
+blocks n byte = replicate (n * classA .block) byte
 
 -- the data set, 51 and 52, among other blocks
 abbrev stores : ℕ → ℕ → ℕ → List ℕ

@@ -6,45 +6,49 @@
 --                       alone; where it is a program check, nothing
 -- Assumes nothing.
 use Prim.Native.Nat.{ℕ, _/_}
-use mathlib.Core.Path.{_≡_, refl, _∙_}
+use mathlib.Core.Path.{_≡_, refl, ap, _∙_}
 use mathlib.Core.Bool.{true, false}
 use mathlib.Core.List.{List}
 use lib.ListN.{length}
 use borrow.Author.Tests.{ne-eqb}
 use Rattle.model.specs.declared.ccw.Ccw.{Ccw}
 use Rattle.model.specs.declared.record.Record.{Record}
+use Rattle.model.specs.declared.kind.Kind.the-variants.{ProgramCheck}
 use Rattle.model.specs.declared.state.Before.the-variants.{Other}
+use Rattle.model.specs.declared.device.Device.{Device}
 use Rattle.model.specs.State.{State}
 use Rattle.numbers.specs.Choice.{pick}
 use Rattle.model.specs.Rules.{firstOf}
-use Rattle.model.specs.Lent.{ccwSize}
-use Rattle.model.specs.Causes.{callCauses, hostCauses, programCheck, verdict}
+use Rattle.model.specs.Lent.{ccwSize, fetched}
+use Rattle.model.specs.Causes.{callCauses, hostCauses, kindOf, verdict}
 use Rattle.model.specs.Sense.{senseOf}
 use Rattle.model.specs.Log.{withSense}
 use Rattle.model.specs.Commands.{Out, after, refused, refusal, step}
 use Rattle.model.specs.Chain.{called, callOf, start, system, run}
 use Rattle.model.specs.Host.{resultOf, hostCallOf}
+use Rattle.model.specs.Parameters.{locateLength}
 use Rattle.numbers.proofs.Choice.{pick-ind, pick-true}
+use Rattle.model.proofs.Leaving.{leaves-ind, leaves-any}
 use Rattle.model.proofs.Steps.{step-cause, step-refused}
 
 -- the call
 
-pub call-refused : (size : ℕ) (chain main store : List ℕ) (u : Record) (answers : List ℕ) (w : ℕ)
-    → firstOf (callCauses size chain main store answers) ≡ w → (w ≡ 0 → ⊥)
-    → callOf size chain main store u answers ≡ record { cause = w; reached = 0; unit = u; main = main; store = store; answers = answers }
+pub call-refused : (dev : Device) (chain main store : List ℕ) (u : Record) (answers : List ℕ) (w : ℕ)
+    → firstOf (callCauses dev chain main store answers) ≡ w → (w ≡ 0 → ⊥)
+    → callOf dev chain main store u answers ≡ record { cause = w; reached = 0; unit = u; main = main; store = store; answers = answers }
 unfolding callOf start pick
-call-refused size chain main store u answers w e n = rw (e, ne-eqb w 0 n)
+call-refused dev chain main store u answers w e n = rw (e, ne-eqb w 0 n)
 
-pub call-ran : (size : ℕ) (chain main store : List ℕ) (u : Record) (answers : List ℕ) → firstOf (callCauses size chain main store answers) ≡ 0
-    → callOf size chain main store u answers ≡ called 0 (run size chain (length chain / ccwSize) 0 (system (start u) main store answers 0))
+pub call-ran : (dev : Device) (chain main store : List ℕ) (u : Record) (answers : List ℕ) → firstOf (callCauses dev chain main store answers) ≡ 0
+    → callOf dev chain main store u answers ≡ called 0 (run dev chain (length chain / ccwSize) 0 (system (start u) main store answers 0))
 unfolding callOf pick
-call-ran size chain main store u answers e = rw e
+call-ran dev chain main store u answers e = rw e
 
-pub host-refused : (size : ℕ) (chain main store unit answers : List ℕ) (w : ℕ)
-    → firstOf (hostCauses size chain main store unit answers) ≡ w → (w ≡ 0 → ⊥)
-    → hostCallOf size chain main store unit answers ≡ record { result = resultOf w 0; main = main; store = store; unit = unit; answers = answers }
+pub host-refused : (dev : Device) (chain main store unit answers : List ℕ) (w : ℕ)
+    → firstOf (hostCauses dev chain main store unit answers) ≡ w → (w ≡ 0 → ⊥)
+    → hostCallOf dev chain main store unit answers ≡ record { result = resultOf w 0; main = main; store = store; unit = unit; answers = answers }
 unfolding hostCallOf pick
-host-refused size chain main store unit answers w e n = rw (e, ne-eqb w 0 n)
+host-refused dev chain main store unit answers w e n = rw (e, ne-eqb w 0 n)
 
 -- a command
 
@@ -62,36 +66,25 @@ pub record Untouched (s : State) (main store : List ℕ) (o : Out) : Type 0 wher
   pub store-same : o .store ≡ store
   pub nothing-moved : (o .done .moved ≡ 0) × (o .done .blocks ≡ 0)
   pub unit-check : SameButSense (s .unit) (o .done .state .unit)
-  pub program-check : programCheck (o .done .cause) ≡ true → o .done .state .unit ≡ s .unit
+  pub program-check : kindOf (o .done .cause) ≡ ProgramCheck → o .done .state .unit ≡ s .unit
 
--- a refusal by the channel, a refusal by the unit, and that the parameters show in cause 39 alone
-
-pub refusal-program : (s : State) (w : ℕ) (p : List ℕ) → programCheck w ≡ true → refusal s w p ≡ record { state = after s (s .unit) Other; cause = w; moved = 0; can = 0; blocks = 0 }
-unfolding refusal pick
-refusal-program s w p e = rw e
-
-pub refusal-unit : (s : State) (w : ℕ) (p : List ℕ) → programCheck w ≡ false
-    → refusal s w p ≡ record { state = after s (withSense (s .unit) (senseOf w p)) Other; cause = w; moved = 0; can = 0; blocks = 0 }
-unfolding refusal pick
-refusal-unit s w p e = rw e
-
+-- the parameters show in cause 39 alone
 pub refusal-any : (s : State) (w : ℕ) (p q : List ℕ) → (w ≡ 39 → ⊥) → refusal s w p ≡ refusal s w q
-unfolding refusal senseOf pick
-refusal-any s w p q n = rw (ne-eqb w 39 n)
+refusal-any s w p q n = ap (λ (t : State). record { state = t; cause = w; moved = 0; can = 0; blocks = 0 }) (leaves-any (kindOf w) s w p q n)
 
 refused-untouched : (c : Ccw) (s : State) (main store : List ℕ) (w : ℕ) → Untouched s main store (refused c s main store w)
-unfolding refused refusal after withSense
+unfolding refused after withSense
 refused-untouched c s main store w =
     let same : SameButSense (s .unit) (s .unit) = record { blocks-read = refl; blocks-written = refl; movements = refl; ready = refl; read-only = refl } in
     record {
       main-same = refl;
       store-same = refl;
       nothing-moved = (refl, refl);
-      unit-check = pick-ind (SameButSense (s .unit)) _ _ _ (λ _. same)
-          (λ _. record { blocks-read = refl; blocks-written = refl; movements = refl; ready = refl; read-only = refl });
-      program-check = λ b. pick-true _ _ _ b;
+      unit-check = leaves-ind (λ (t : State). SameButSense (s .unit) (t .unit)) (kindOf w) s w (fetched c main locateLength) same same
+          (record { blocks-read = refl; blocks-written = refl; movements = refl; ready = refl; read-only = refl });
+      program-check = λ e. rw e;
     }
 
-pub step-untouched : (size : ℕ) (c : Ccw) (s : State) (main store : List ℕ) → (step size c s main store .done .cause ≡ 0 → ⊥) → Untouched s main store (step size c s main store)
-step-untouched size c s main store n =
-    rw (step-refused size c s main store (λ v. n (step-cause size c s main store ∙ v))) (refused-untouched c s main store (verdict size c s main store))
+pub step-untouched : (dev : Device) (c : Ccw) (s : State) (main store : List ℕ) → (step dev c s main store .done .cause ≡ 0 → ⊥) → Untouched s main store (step dev c s main store)
+step-untouched dev c s main store n =
+    rw (step-refused dev c s main store (λ v. n (step-cause dev c s main store ∙ v))) (refused-untouched c s main store (verdict dev c s main store))

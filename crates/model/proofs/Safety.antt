@@ -14,17 +14,19 @@ use Rattle.model.specs.declared.extent.Extent.{Extent}
 use Rattle.model.specs.declared.extent.Located.{Located}
 use Rattle.model.specs.declared.record.Record.{Record}
 use Rattle.model.specs.declared.state.Before.{Before}
+use Rattle.model.specs.declared.device.Device.{Device}
 use Rattle.model.specs.State.{State}
 use Rattle.numbers.specs.Choice.{_<?_}
-use Rattle.model.specs.Lent.{blockCount}
+use Rattle.model.specs.Lent.{blockCount, fetched}
 use Rattle.model.specs.Parameters.{extentLength, extentIn, locateLength, locatedIn, processed, address, outside}
-use Rattle.model.specs.Causes.{extentCauses, defineExtentCauses, permissionCauses, locationCauses, locateCauses, transferCauses, a-locate}
-use Rattle.model.specs.Commands.{after, extentSet, locateSet, noOperation, defineExtent, locate, sent, sense, senseType, readLog, read, write, wholeDevice, readIpl, refused, refusal, seen, step}
+use Rattle.model.specs.Causes.{extentCauses, defineExtentCauses, permissionCauses, locationCauses, locateCauses, transferCauses, a-locate, kindOf}
+use Rattle.model.specs.Commands.{after, extentSet, locateSet, noOperation, defineExtent, locate, sent, sense, senseType, readLog, read, write, wholeDevice, readIpl, refused, refusal, seen, step, defineDone, iplDone, locateDone, readDone, writeDone}
 use Rattle.model.specs.Safe.{OnDevice, InExtent, Safe}
 use Rattle.model.specs.Chain.{start}
 use Rattle.model.specs.Exactly.{Failed}
 use Rattle.numbers.proofs.Choice.{pick-ind}
 use Rattle.numbers.proofs.Joined.{both-false, either-false}
+use Rattle.model.proofs.Leaving.{leaves-ind}
 use Rattle.model.proofs.Steps.{Cases, step-cases}
 
 -- parameters that no cause refuses
@@ -33,9 +35,9 @@ pub record DefineOk (c : Ccw) (e : Extent) (blocks : ℕ) : Type 0 where
   pub long : extentLength ≤ c .count
   pub placed : OnDevice e blocks
 
-pub define-ok : (size blocks : ℕ) (c : Ccw) (s : State) (p : List ℕ) → Failed (defineExtentCauses size blocks c s p) → DefineOk c (extentIn p) blocks
+pub define-ok : (dev : Device) (blocks : ℕ) (c : Ccw) (s : State) (p : List ℕ) → Failed (defineExtentCauses dev blocks c s p) → DefineOk c (extentIn p) blocks
 unfolding defineExtentCauses extentCauses
-define-ok size blocks c s p f = record {
+define-ok dev blocks c s p f = record {
   long = ltb-false _ _ (f .0);
   placed = record { order = ltb-false _ _ (f .1 .1 .1 .1 .1 .0); inside = ltb-true _ _ (not-false _ (f .1 .1 .1 .1 .1 .1 .0)) };
 }
@@ -92,18 +94,18 @@ pub safe-seen : (c : Ccw) (s : State) (blocks : ℕ) → Safe s blocks → Safe 
 unfolding seen after
 safe-seen c s blocks h = record { extent = h .extent; located = h .located }
 
-module _ (size : ℕ) (c : Ccw) (s : State) (main store : List ℕ) (some : 0 < blockCount size store) (h : Safe s (blockCount size store)) where
-  safe-cases : Cases size c s main store (λ o. Safe (o .done .state) (blockCount size store))
-  unfolding noOperation defineExtent locate read write readIpl sense senseType readLog sent refused refusal seen after extentSet locateSet wholeDevice address
+module _ (dev : Device) (c : Ccw) (s : State) (main store : List ℕ) (some : 0 < blockCount dev store) (h : Safe s (blockCount dev store)) where
+  safe-cases : Cases dev c s main store (λ o. Safe (o .done .state) (blockCount dev store))
+  unfolding noOperation defineExtent defineDone locate locateDone read readDone write writeDone readIpl iplDone sense senseType readLog sent refused seen after extentSet locateSet wholeDevice address
   safe-cases =
-      let n : ℕ = blockCount size store in
+      let n : ℕ = blockCount dev store in
       let t : State = seen c s in
       let k : Safe t n = safe-seen c s n h in
       record {
-        refusal = λ w _ _. safe-after s _ _ n refl h;
+        refusal = λ w _ _. leaves-ind (λ (t : State). Safe t n) (kindOf w) s w (fetched c main locateLength) h (safe-after s _ _ n refl h) (safe-after s _ _ n refl h);
         no-operation = λ _. safe-after t _ _ n refl k;
         define-extent = λ _ _ f.
-            let d = define-ok size n c s _ f in
+            let d = define-ok dev n c s _ f in
             record { extent = λ _. d .placed; located = λ e. absurd (false≢true e) };
         locate = λ _ _ f.
             let l = locate-ok c s _ f in
@@ -116,5 +118,5 @@ module _ (size : ℕ) (c : Ccw) (s : State) (main store : List ℕ) (some : 0 < 
         read-log = λ _ _. safe-after t _ _ n refl k;
       }
 
-  pub step-safe : Safe (step size c s main store .done .state) (blockCount size store)
-  step-safe = step-cases size c s main store (λ o. Safe (o .done .state) (blockCount size store)) safe-cases
+  pub step-safe : Safe (step dev c s main store .done .state) (blockCount dev store)
+  step-safe = step-cases dev c s main store (λ o. Safe (o .done .state) (blockCount dev store)) safe-cases

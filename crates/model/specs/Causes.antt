@@ -7,15 +7,19 @@
 --     locateCauses          30 to 39           from 32 on in locationCauses, from 36 on in permissionCauses
 --     readIplCauses         40
 --     transferCauses        41, 42             READ and WRITE
+--     kindOf                how a cause ends its command
 --     causesOf              all the lines that can apply to a command, in order; `verdict` is the first that holds
--- Where 002 overrules 01 a line says so. `size` is the block size of the device. Assumes nothing.
+-- Where 002 overrules 01 a line says so. Assumes nothing.
 use Prim.Native.Nat.{ℕ, zero, suc, _+_, _/_, _%_}
 use mathlib.Core.Bool.{Bool, true, false, not, _&&_, _||_}
 use mathlib.Core.List.{List, [], _∷_, _++_}
 use lib.ListN.{length}
 use Rattle.numbers.specs.Bits.{bit, anyBit}
 use Rattle.model.specs.declared.ccw.Ccw.{Ccw}
+use Rattle.model.specs.declared.device.Device.{Device}
 use Rattle.model.specs.declared.extent.Located.{Located}
+use Rattle.model.specs.declared.kind.Kind.{Kind}
+use Rattle.model.specs.declared.kind.Kind.the-variants.{Accepted, ProgramCheck, UnitCheck}
 use Rattle.model.specs.declared.state.Before.{Before}
 use Rattle.model.specs.declared.state.Before.the-variants.{Nothing, ReadIpl, Locate, Other}
 use Rattle.model.specs.State.{State}
@@ -25,6 +29,16 @@ use Rattle.model.specs.Rules.{Rule, _when_, firstOf}
 use Rattle.model.specs.Lent.{ccwSize, ccwAt, flag, fetched, blockCount, recordSize}
 use Rattle.model.specs.Parameters.{extentLength, extentIn, reservedIn, sizeIn, locateLength, locatedIn, modifiersIn, replicationIn, processed, operations, reads, writes, forbids, address, outside}
 
+-- how a cause ends its command: 0 is acceptance; "Causes 10 to 13 are program checks .. All others are unit checks"
+
+abbrev pub kindBy : Bool → Bool → Kind
+kindBy true channels = Accepted
+kindBy false true = ProgramCheck
+kindBy false false = UnitCheck
+
+abbrev pub kindOf : ℕ → Kind
+kindOf cause = kindBy (cause =? 0) (oneOf (10 ∷ 11 ∷ 12 ∷ 13 ∷ []) cause)
+
 -- the call
 
 -- each of the first n CCWs has flag 40
@@ -32,17 +46,17 @@ unfoldable pub allChained : List ℕ → ℕ → Bool
 allChained chain zero = true
 allChained chain (suc n) = flag (ccwAt chain n) chain-command && allChained chain n
 
-unfoldable pub callCauses : ℕ → List ℕ → List ℕ → List ℕ → List ℕ → List Rule
-callCauses size chain main store answers =
+unfoldable pub callCauses : Device → List ℕ → List ℕ → List ℕ → List ℕ → List Rule
+callCauses dev chain main store answers =
     1 when (length chain =? 0 || 256 <? length chain || not (length chain % ccwSize =? 0))
-    ∷ 2 when (length store =? 0 || not (length store % size =? 0) || 131072 <? blockCount size store)
+    ∷ 2 when (length store =? 0 || not (length store % dev .block =? 0) || 131072 <? blockCount dev store)
     ∷ 3 when (16777216 <? length main)
     ∷ 4 when (length answers <? length chain)
     ∷ 5 when allChained chain (length chain / ccwSize)
     ∷ []
 
-unfoldable pub hostCauses : ℕ → List ℕ → List ℕ → List ℕ → List ℕ → List ℕ → List Rule
-hostCauses size chain main store unit answers = callCauses size chain main store answers ++ (6 when not (length unit =? recordSize) ∷ [])
+unfoldable pub hostCauses : Device → List ℕ → List ℕ → List ℕ → List ℕ → List ℕ → List Rule
+hostCauses dev chain main store unit answers = callCauses dev chain main store answers ++ (6 when not (length unit =? recordSize) ∷ [])
 
 -- the channel: 10 to 13 are program checks, and the unit does not see the command
 
@@ -53,9 +67,6 @@ channelCauses c main =
     ∷ 11 when (c .count =? 0)
     ∷ 12 when (not (c .command =? NO-OPERATION) && length main <? c .address + c .count)
     ∷ []
-
-unfoldable pub programCheck : ℕ → Bool
-programCheck = oneOf (10 ∷ 11 ∷ 12 ∷ 13 ∷ [])
 
 -- the unit
 
@@ -70,21 +81,21 @@ unitCauses c s =
 
 -- DEFINE EXTENT: whether it may stand here, then what its parameters say on a device of so many blocks
 
-unfoldable pub extentCauses : ℕ → ℕ → List ℕ → List Rule
-extentCauses size blocks p =
+unfoldable pub extentCauses : Device → ℕ → List ℕ → List Rule
+extentCauses dev blocks p =
     let e = extentIn p in
     22 when ((bit (e .mask) 0 && not (bit (e .mask) 1)) || anyBit (e .mask) (2 ∷ 3 ∷ 6 ∷ 7 ∷ []) || not (reservedIn p =? 0))
     ∷ 23 when bit (e .mask) 4
-    ∷ 24 when not (oneOf (0 ∷ size ∷ []) (sizeIn p))
+    ∷ 24 when not (oneOf (0 ∷ dev .block ∷ []) (sizeIn p))
     ∷ 25 when (e .last .0 <? e .first .0)
     ∷ 26 when not (address e (e .last) <? blocks)
     ∷ []
 
-unfoldable pub defineExtentCauses : ℕ → ℕ → Ccw → State → List ℕ → List Rule
-defineExtentCauses size blocks c s p =
+unfoldable pub defineExtentCauses : Device → ℕ → Ccw → State → List ℕ → List Rule
+defineExtentCauses dev blocks c s p =
     20 when (c .count <? extentLength)
     ∷ 21 when s .defined
-    ∷ extentCauses size blocks p
+    ∷ extentCauses dev blocks p
 
 -- LOCATE: whether it may stand here, what its parameters say, then whether extent, mask, switch and alternates allow n blocks so
 -- 32: 002, 2.1.4, ignores modifier bit 3 where there is no untagged DEVICE END
@@ -136,16 +147,16 @@ transferCauses follows s = 41 when not (a-locate (s .before)) ∷ 42 when not (f
 
 -- a command
 
-unfoldable pub ownCauses : ℕ → Ccw → State → List ℕ → List ℕ → List Rule
-ownCauses size c s main store =
-    pick (c .command =? DEFINE-EXTENT) (defineExtentCauses size (blockCount size store) c s (fetched c main extentLength))
+unfoldable pub ownCauses : Device → Ccw → State → List ℕ → List ℕ → List Rule
+ownCauses dev c s main store =
+    pick (c .command =? DEFINE-EXTENT) (defineExtentCauses dev (blockCount dev store) c s (fetched c main extentLength))
     (pick (c .command =? LOCATE) (locateCauses c s (fetched c main locateLength))
     (pick (c .command =? READ-IPL) (readIplCauses s)
     (pick (c .command =? READ) (transferCauses reads s)
     (pick (c .command =? WRITE) (transferCauses writes s) []))))
 
-unfoldable pub causesOf : ℕ → Ccw → State → List ℕ → List ℕ → List Rule
-causesOf size c s main store = channelCauses c main ++ unitCauses c s ++ ownCauses size c s main store
+unfoldable pub causesOf : Device → Ccw → State → List ℕ → List ℕ → List Rule
+causesOf dev c s main store = channelCauses c main ++ unitCauses c s ++ ownCauses dev c s main store
 
-unfoldable pub verdict : ℕ → Ccw → State → List ℕ → List ℕ → ℕ
-verdict size c s main store = firstOf (causesOf size c s main store)
+unfoldable pub verdict : Device → Ccw → State → List ℕ → List ℕ → ℕ
+verdict dev c s main store = firstOf (causesOf dev c s main store)

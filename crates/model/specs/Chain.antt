@@ -11,6 +11,7 @@ use lib.ListN.{length}
 use Rattle.slices.specs.Parts.{put}
 use Rattle.model.specs.declared.record.Record.{Record}
 use Rattle.model.specs.declared.state.Before.the-variants.{Nothing}
+use Rattle.model.specs.declared.device.Device.{Device}
 use Rattle.model.specs.State.{State}
 use Rattle.numbers.specs.Choice.{_=?_, pick}
 use Rattle.model.specs.Rules.{firstOf}
@@ -29,10 +30,10 @@ pub record System : Type 0 where
 abbrev pub system : State → List ℕ → List ℕ → List ℕ → ℕ → System
 system s main store answers reached = record { state = s; main = main; store = store; answers = answers; reached = reached }
 
-module _ (size : ℕ) (chain : List ℕ) where
+module _ (dev : Device) (chain : List ℕ) where
   -- what command i gives
   unfoldable pub stepAt : ℕ → System → Out
-  stepAt i y = step size (ccwAt chain i) (y .state) (y .main) (y .store)
+  stepAt i y = step dev (ccwAt chain i) (y .state) (y .main) (y .store)
 
   unfoldable pub next : ℕ → System → System
   next i y =
@@ -69,15 +70,15 @@ abbrev pub called : ℕ → System → Called
 called cause y = record { cause = cause; reached = y .reached; unit = y .state .unit; main = y .main; store = y .store; answers = y .answers }
 
 -- "Causes 1 to 6 come before any command and write nothing at all"
-unfoldable pub callOf : ℕ → List ℕ → List ℕ → List ℕ → Record → List ℕ → Called
-callOf size chain main store u answers =
-    let cause = firstOf (callCauses size chain main store answers) in
+unfoldable pub callOf : Device → List ℕ → List ℕ → List ℕ → Record → List ℕ → Called
+callOf dev chain main store u answers =
+    let cause = firstOf (callCauses dev chain main store answers) in
     let y = system (start u) main store answers 0 in
-    called cause (pick (cause =? 0) (run size chain (length chain / ccwSize) 0 y) y)
+    called cause (pick (cause =? 0) (run dev chain (length chain / ccwSize) 0 y) y)
 
 -- Class A: blocks of 512 bytes
-abbrev pub classA : ℕ
-classA = 512
+abbrev pub classA : Device
+classA = record { block = 512 }
 
 abbrev pub call : List ℕ → List ℕ → List ℕ → Record → List ℕ → Called
 call = callOf classA

@@ -1,28 +1,34 @@
 -- What each of the nine commands does (01, Commands that are accepted), and one command whole.
 --     Out        what a command gives: the numbers of its answer and the new state, main storage, the store
+--     ending     how a command ends, accepted or refused: the numbers of its answer, and what is left by the kind of its cause
 --     begun      the blocks that so many bytes begin
 --     noOperation, defineExtent, locate, read, write, readIpl, sense, senseType, readLog
---                an accepted command
---     refusal    a command that was given a cause, and `refused` with the storages that it leaves alone
---     step       one command: refused by the first of its causes that holds, or else accepted
--- `size` is the block size of the device. Assumes nothing.
+--                an accepted command; defineDone and the like are its ending, beside the bytes that it moves
+--     refused    a command that was given a cause
+--     performed  a command that the channel and the unit passed on: refused by the first of its own causes that holds, or accepted
+--     step       one command: by the first of all its causes
+-- Assumes nothing.
 use Prim.Native.Nat.{ℕ, _+_, _-_, _*_, _/_, min}
 use mathlib.Core.Bool.{true}
 use mathlib.Core.List.{List, [], _∷_}
 use lib.ListN.{take}
+use Rattle.numbers.specs.Choice.{_=?_, pick, oneOf}
 use Rattle.slices.specs.Parts.{zeros}
 use Rattle.model.specs.declared.ccw.Ccw.{Ccw}
+use Rattle.model.specs.declared.device.Device.{Device}
 use Rattle.model.specs.declared.extent.Extent.{Extent}
 use Rattle.model.specs.declared.extent.Located.{Located}
+use Rattle.model.specs.declared.kind.Kind.{Kind}
+use Rattle.model.specs.declared.kind.Kind.the-variants.{Accepted, ProgramCheck, UnitCheck}
 use Rattle.model.specs.declared.record.Record.{Record}
 use Rattle.model.specs.declared.state.Before.{Before}
 use Rattle.model.specs.declared.state.Before.the-variants.{ReadIpl, Locate, Other}
 use Rattle.model.specs.State.{State, Done}
 use Rattle.model.specs.Names.{NO-OPERATION, DEFINE-EXTENT, LOCATE, READ, WRITE, READ-IPL, SENSE, SENSE-TYPE, write-check}
-use Rattle.numbers.specs.Choice.{_=?_, pick, oneOf}
+use Rattle.model.specs.Rules.{firstOf}
 use Rattle.model.specs.Lent.{fetched, delivered, blockCount, blocksFrom, blocksInto}
 use Rattle.model.specs.Parameters.{extentLength, extentIn, locateLength, locatedIn, address}
-use Rattle.model.specs.Causes.{verdict, programCheck}
+use Rattle.model.specs.Causes.{kindOf, ownCauses, verdict}
 use Rattle.model.specs.Sense.{senseOf}
 use Rattle.model.specs.Log.{withSense, readCounted, writtenCounted, movementCounted, logOf, logReset}
 
@@ -34,10 +40,6 @@ pub record Out : Type 0 where
 abbrev pub out : Done → List ℕ → List ℕ → Out
 out d main store = record { done = d; main = main; store = store }
 
--- an accepted command: cause 0
-abbrev pub ended : State → ℕ → ℕ → ℕ → Done
-ended s moved can blocks = record { state = s; cause = 0; moved = moved; can = can; blocks = blocks }
-
 -- the state after a command: the unit record as it left it, and what the next command has before it
 unfoldable pub after : State → Record → Before → State
 after s u before = record { unit = u; defined = s .defined; extent = s .extent; before = before; located = s .located }
@@ -48,20 +50,37 @@ extentSet s u e before = record { unit = u; defined = true; extent = e; before =
 unfoldable pub locateSet : State → Record → Located → State
 locateSet s u l = record { unit = u; defined = s .defined; extent = s .extent; before = Locate; located = l }
 
+-- how a command ends: a program check leaves the record as it is, a unit check gives it new sense
+
+abbrev pub leaves : Kind → State → ℕ → List ℕ → State
+leaves Accepted s cause parameters = s
+leaves ProgramCheck s cause parameters = after s (s .unit) Other
+leaves UnitCheck s cause parameters = after s (withSense (s .unit) (senseOf cause parameters)) Other
+
+abbrev pub ending : State → ℕ → List ℕ → ℕ → ℕ → ℕ → Done
+ending s cause parameters moved can blocks = record { state = leaves (kindOf cause) s cause parameters; cause = cause; moved = moved; can = can; blocks = blocks }
+
+abbrev pub ended : State → ℕ → ℕ → ℕ → Done
+ended s moved can blocks = ending s 0 [] moved can blocks
+
 -- the commands that move no block
 
 -- "NO-OPERATION moves nothing"
 unfoldable pub noOperation : State → List ℕ → List ℕ → Out
 noOperation s main store = out (ended (after s (s .unit) Other) 0 0 0) main store
 
+unfoldable pub defineDone : State → List ℕ → Done
+defineDone s p = ended (extentSet s (s .unit) (extentIn p) Other) extentLength extentLength 0
+
 unfoldable pub defineExtent : Ccw → State → List ℕ → List ℕ → Out
-defineExtent c s main store =
-    out (ended (extentSet s (s .unit) (extentIn (fetched c main extentLength)) Other) extentLength extentLength 0) main store
+defineExtent c s main store = out (defineDone s (fetched c main extentLength)) main store
 
 -- "A later LOCATE replaces an earlier one. It counts one access movement."
+unfoldable pub locateDone : State → List ℕ → Done
+locateDone s p = ended (locateSet s (movementCounted (s .unit)) (locatedIn p)) locateLength locateLength 0
+
 unfoldable pub locate : Ccw → State → List ℕ → List ℕ → Out
-locate c s main store =
-    out (ended (locateSet s (movementCounted (s .unit)) (locatedIn (fetched c main locateLength))) locateLength locateLength 0) main store
+locate c s main store = out (locateDone s (fetched c main locateLength)) main store
 
 -- a command that can move so many of these bytes into its data area, and leaves that unit record
 unfoldable pub sent : Ccw → State → List ℕ → List ℕ → ℕ → List ℕ → Record → Out
@@ -79,44 +98,53 @@ senseType c s main store = sent c s main store 7 (0xFF ∷ 0x00 ∷ 0x97 ∷ 0x0
 unfoldable pub readLog : Ccw → State → List ℕ → List ℕ → Out
 readLog c s main store = sent c s main store 24 (logOf (s .unit)) (logReset (s .unit))
 
--- the commands that move blocks
+-- the commands that move blocks: of `can` bytes that they can move, n
 
-module _ (size : ℕ) where
+module _ (dev : Device) where
   unfoldable pub begun : ℕ → ℕ
-  begun n = (n + (size - 1)) / size
+  begun n = (n + (dev .block - 1)) / dev .block
 
-  -- "READ moves up to 512 times the block count into the data area", and "adds its blocks moved to blocks read"
+  -- READ "adds its blocks moved to blocks read"
+  unfoldable pub readDone : State → ℕ → ℕ → Done
+  readDone s n can = ended (after s (readCounted (begun n) (s .unit)) Other) n can (begun n)
+
+  -- "READ moves up to 512 times the block count into the data area"
   unfoldable pub read : Ccw → State → List ℕ → List ℕ → Out
   read c s main store =
       let l = s .located in
-      let can = l .blocks * size in
+      let can = l .blocks * dev .block in
       let n = min (c .count) can in
-      let u = readCounted (begun n) (s .unit) in
-      let bytes = blocksFrom size store (address (s .extent) (l .displacement)) (l .blocks) in
-      out (ended (after s u Other) n can (begun n)) (delivered c main (take n bytes)) store
+      let bytes = blocksFrom dev store (address (s .extent) (l .displacement)) (l .blocks) in
+      out (readDone s n can) (delivered c main (take n bytes)) store
 
-  -- "WRITE moves up to as many bytes into the store"; 002, 2.3: what they leave of the LOCATE's blocks is filled with zeros,
-  -- so after operation 5 all of those blocks are written with check (002, 5.8.1)
+  -- after operation 5 all blocks of the LOCATE are written with check (002, 5.8.1)
+  unfoldable pub writeDone : State → ℕ → ℕ → Done
+  writeDone s n can =
+      let l = s .located in
+      let u = pick (l .operation =? write-check) (writtenCounted (l .blocks) (s .unit)) (s .unit) in
+      ended (after s u Other) n can (begun n)
+
+  -- "WRITE moves up to as many bytes into the store"; 002, 2.3: what they leave of the LOCATE's blocks is filled with zeros
   unfoldable pub write : Ccw → State → List ℕ → List ℕ → Out
   write c s main store =
       let l = s .located in
-      let can = l .blocks * size in
+      let can = l .blocks * dev .block in
       let n = min (c .count) can in
-      let u = pick (l .operation =? write-check) (writtenCounted (l .blocks) (s .unit)) (s .unit) in
-      let written = blocksInto size store (address (s .extent) (l .displacement)) (l .blocks) (fetched c main n) in
-      out (ended (after s u Other) n can (begun n)) main written
+      out (writeDone s n can) main (blocksInto dev store (address (s .extent) (l .displacement)) (l .blocks) (fetched c main n))
 
-  -- "sets an extent over the whole device: offset 0, first 0, last the final block, mask 00"
-  unfoldable pub wholeDevice : List ℕ → Extent
-  wholeDevice store = record { mask = 0; offset = record { 0 = 0 }; first = record { 0 = 0 }; last = record { 0 = blockCount size store - 1 } }
+  -- READ IPL "counts one block read and one access movement, and sets an extent over the whole device: offset 0, first 0, last
+  -- the final block, mask 00"
+  unfoldable pub wholeDevice : ℕ → Extent
+  wholeDevice blocks = record { mask = 0; offset = record { 0 = 0 }; first = record { 0 = 0 }; last = record { 0 = blocks - 1 } }
 
-  -- "READ IPL moves up to 512 bytes of block 0, counts one block read and one access movement"
+  unfoldable pub iplDone : State → ℕ → ℕ → Done
+  iplDone s n blocks = ended (extentSet s (movementCounted (readCounted 1 (s .unit))) (wholeDevice blocks) ReadIpl) n (dev .block) 1
+
+  -- "READ IPL moves up to 512 bytes of block 0"
   unfoldable pub readIpl : Ccw → State → List ℕ → List ℕ → Out
   readIpl c s main store =
-      let n = min (c .count) size in
-      let u = movementCounted (readCounted 1 (s .unit)) in
-      let bytes = blocksFrom size store 0 1 in
-      out (ended (extentSet s u (wholeDevice store) ReadIpl) n size 1) (delivered c main (take n bytes)) store
+      let n = min (c .count) (dev .block) in
+      out (iplDone s n (blockCount dev store)) (delivered c main (take n (blocksFrom dev store 0 1))) store
 
   unfoldable pub accepted : Ccw → State → List ℕ → List ℕ → Out
   accepted c s main store =
@@ -130,16 +158,17 @@ module _ (size : ℕ) where
       (pick (c .command =? SENSE-TYPE) (senseType c s main store)
       (readLog c s main store))))))))
 
--- a refused command moves nothing; a program check leaves the record as it is, a unit check gives it new sense
-unfoldable pub refusal : State → ℕ → List ℕ → Done
-refusal s cause parameters =
-    let u = pick (programCheck cause) (s .unit) (withSense (s .unit) (senseOf cause parameters)) in
-    record { state = after s u Other; cause = cause; moved = 0; can = 0; blocks = 0 }
+-- a refused command moves nothing
+abbrev pub refusal : State → ℕ → List ℕ → Done
+refusal s cause parameters = ending s cause parameters 0 0 0
 
 unfoldable pub refused : Ccw → State → List ℕ → List ℕ → ℕ → Out
 refused c s main store cause = out (refusal s cause (fetched c main locateLength)) main store
 
 -- "Each command that the unit sees, other than 03 and 04, zeroes the pending sense before its tests"
+unfoldable pub cleared : State → State
+cleared s = after s (withSense (s .unit) (zeros 24)) (s .before)
+
 unfoldable pub seen : Ccw → State → State
 seen c s = after s (pick (oneOf (NO-OPERATION ∷ SENSE ∷ []) (c .command)) (s .unit) (withSense (s .unit) (zeros 24))) (s .before)
 
@@ -147,5 +176,8 @@ seen c s = after s (pick (oneOf (NO-OPERATION ∷ SENSE ∷ []) (c .command)) (s
 unfoldable pub decided : Ccw → State → List ℕ → List ℕ → ℕ → Out → Out
 decided c s main store cause done = pick (cause =? 0) done (refused c s main store cause)
 
-unfoldable pub step : ℕ → Ccw → State → List ℕ → List ℕ → Out
-step size c s main store = decided c s main store (verdict size c s main store) (accepted size c (seen c s) main store)
+unfoldable pub performed : Device → Ccw → State → List ℕ → List ℕ → Out
+performed dev c s main store = decided c s main store (firstOf (ownCauses dev c s main store)) (accepted dev c (seen c s) main store)
+
+unfoldable pub step : Device → Ccw → State → List ℕ → List ℕ → Out
+step dev c s main store = decided c s main store (verdict dev c s main store) (accepted dev c (seen c s) main store)

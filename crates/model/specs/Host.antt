@@ -6,6 +6,7 @@
 use Prim.Native.Nat.{ℕ, _+_, _*_}
 use mathlib.Core.List.{List}
 use lib.ListN.{length}
+use Rattle.model.specs.declared.device.Device.{Device}
 use Rattle.numbers.specs.Choice.{_=?_, pick}
 use Rattle.model.specs.Rules.{firstOf}
 use Rattle.model.specs.Lent.{recordSize, recordBytes, recordOf, newRecord}
@@ -26,10 +27,10 @@ resultOf cause reached = 256 * cause + reached
 abbrev pub hosted : Called → Hosted
 hosted r = record { result = resultOf (r .cause) (r .reached); main = r .main; store = r .store; unit = recordBytes (r .unit); answers = r .answers }
 
-unfoldable pub hostCallOf : ℕ → List ℕ → List ℕ → List ℕ → List ℕ → List ℕ → Hosted
-hostCallOf size chain main store unit answers =
-    let cause = firstOf (hostCauses size chain main store unit answers) in
-    pick (cause =? 0) (hosted (callOf size chain main store (recordOf unit) answers))
+unfoldable pub hostCallOf : Device → List ℕ → List ℕ → List ℕ → List ℕ → List ℕ → Hosted
+hostCallOf dev chain main store unit answers =
+    let cause = firstOf (hostCauses dev chain main store unit answers) in
+    pick (cause =? 0) (hosted (callOf dev chain main store (recordOf unit) answers))
     (record { result = resultOf cause 0; main = main; store = store; unit = unit; answers = answers })
 
 abbrev pub hostCall : List ℕ → List ℕ → List ℕ → List ℕ → List ℕ → Hosted

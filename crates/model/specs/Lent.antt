@@ -7,7 +7,7 @@
 --     blockAt                 the bytes of a block: what READ shows of it
 --     blocksFrom, blocksInto  some blocks from one on: as READ sees them, and as WRITE leaves them
 --     recordBytes, recordOf   the unit record and its 34 bytes
--- `size` is the block size, 512 in every call of today. Assumes nothing.
+-- `dev` is the device: its numbers, one value. Assumes nothing.
 use Prim.Native.Nat.{ℕ, zero, suc, _+_, _*_, _/_}
 use mathlib.Core.Bool.{Bool}
 use mathlib.Core.List.{List, [], _∷_, _++_}
@@ -17,6 +17,7 @@ use Rattle.numbers.specs.Big.{be2, be3}
 use Rattle.slices.specs.Parts.{part, put, pad, zeros}
 use Rattle.model.specs.declared.ccw.Ccw.{Ccw}
 use Rattle.model.specs.declared.record.Record.{Record}
+use Rattle.model.specs.declared.device.Device.{Device}
 
 -- Chain: 8 bytes per CCW. Byte 0 command, 1-3 data address, 4 flags, 5 ignored, 6-7 count
 abbrev pub ccwSize : ℕ
@@ -38,15 +39,15 @@ unfoldable pub delivered : Ccw → List ℕ → List ℕ → List ℕ
 delivered c main bytes = put main (c .address) bytes
 
 -- Store: "A block is the 512 bytes that begin at 512 times its number"
-module _ (size : ℕ) where
+module _ (dev : Device) where
   unfoldable pub blockStart : ℕ → ℕ
-  blockStart block = block * size
+  blockStart block = block * dev .block
 
   unfoldable pub blockCount : List ℕ → ℕ
-  blockCount store = length store / size
+  blockCount store = length store / dev .block
 
   unfoldable pub blockAt : List ℕ → ℕ → List ℕ
-  blockAt store block = part store (blockStart block) size
+  blockAt store block = part store (blockStart block) (dev .block)
 
   -- n blocks from one on, in a row
   unfoldable pub blocksFrom : List ℕ → ℕ → ℕ → List ℕ
@@ -56,7 +57,7 @@ module _ (size : ℕ) where
   -- the store with n blocks from one on made of these bytes, in turn, and of zeros where they run out
   unfoldable pub blocksInto : List ℕ → ℕ → ℕ → List ℕ → List ℕ
   blocksInto store block zero bytes = store
-  blocksInto store block (suc n) bytes = blocksInto (put store (blockStart block) (pad size bytes)) (block + 1) n (drop size bytes)
+  blocksInto store block (suc n) bytes = blocksInto (put store (blockStart block) (pad (dev .block) bytes)) (block + 1) n (drop (dev .block) bytes)
 
 -- Unit record: sense (24), blocks read (3), blocks written with check (3), access movements (2), ready (1), read-only (1)
 abbrev pub recordSize : ℕ

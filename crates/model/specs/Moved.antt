@@ -16,6 +16,7 @@ use mathlib.Core.List.{List}
 use lib.ListN.{length, getD}
 use Rattle.model.specs.declared.ccw.Ccw.{Ccw}
 use Rattle.model.specs.declared.extent.Extent.{Extent}
+use Rattle.model.specs.declared.device.Device.{Device}
 use Rattle.model.specs.Names.{DEFINE-EXTENT, READ-IPL, chain-command}
 use Rattle.model.specs.Lent.{ccwSize, ccwAt, flag, fetched, blockCount, blockAt}
 use Rattle.model.specs.Parameters.{extentLength, extentIn}
@@ -55,48 +56,48 @@ pub record SameBut (at n : ℕ) (l k : List ℕ) : Type 0 where
 abbrev pub SameButOffset : Ccw → List ℕ → List ℕ → Type 0
 SameButOffset c main main′ = SameBut (offsetAt c) 4 main main′
 
-module _ (size : ℕ) where
+module _ (dev : Device) where
   -- "leave room for the extent (offset + last - first below the device's block count)"
   abbrev pub HasRoom : Extent → List ℕ → Type 0
-  HasRoom e store = e .offset .0 + (e .last .0 - e .first .0) < blockCount size store
+  HasRoom e store = e .offset .0 + (e .last .0 - e .first .0) < blockCount dev store
 
   -- "the extent's blocks hold the same data at both places"
   abbrev pub SameData : Extent → Extent → List ℕ → List ℕ → Type 0
-  SameData e e′ store store′ = (k : ℕ) → k ≤ e .last .0 - e .first .0 → blockAt size store (e .offset .0 + k) ≡ blockAt size store′ (e′ .offset .0 + k)
+  SameData e e′ store store′ = (k : ℕ) → k ≤ e .last .0 - e .first .0 → blockAt dev store (e .offset .0 + k) ≡ blockAt dev store′ (e′ .offset .0 + k)
 
   -- "no block outside the extent changes"
   abbrev pub KeptOutside : Extent → List ℕ → List ℕ → Type 0
-  KeptOutside e store after = (n : ℕ) → (n < e .offset .0) ⊎ (e .offset .0 + (e .last .0 - e .first .0) < n) → blockAt size after n ≡ blockAt size store n
+  KeptOutside e store after = (n : ℕ) → (n < e .offset .0) ⊎ (e .offset .0 + (e .last .0 - e .first .0) < n) → blockAt dev after n ≡ blockAt dev store n
 
 -- what the sixteen bytes say
 abbrev pub extentAt : Ccw → List ℕ → Extent
 extentAt c main = extentIn (fetched c main extentLength)
 
-pub record Moved (size : ℕ) (chain : List ℕ) (d : ℕ) (main main′ store store′ : List ℕ) : Type 0 where
+pub record Moved (dev : Device) (chain : List ℕ) (d : ℕ) (main main′ store store′ : List ℕ) : Type 0 where
   pub one : OneExtent chain d
   pub alone : ParametersAlone chain d
   pub typed : SameButOffset (ccwAt chain d) main main′
   pub sizes : length store ≡ length store′
-  pub room : HasRoom size (extentAt (ccwAt chain d) main) store
-  pub room′ : HasRoom size (extentAt (ccwAt chain d) main′) store′
-  pub blocks : SameData size (extentAt (ccwAt chain d) main) (extentAt (ccwAt chain d) main′) store store′
+  pub room : HasRoom dev (extentAt (ccwAt chain d) main) store
+  pub room′ : HasRoom dev (extentAt (ccwAt chain d) main′) store′
+  pub blocks : SameData dev (extentAt (ccwAt chain d) main) (extentAt (ccwAt chain d) main′) store store′
 
 -- r and r′ are what the two calls gave
-pub record SameAfter (size : ℕ) (chain : List ℕ) (d : ℕ) (main main′ store store′ : List ℕ) (r r′ : Called) : Type 0 where
+pub record SameAfter (dev : Device) (chain : List ℕ) (d : ℕ) (main main′ store store′ : List ℕ) (r r′ : Called) : Type 0 where
   pub cause : r .cause ≡ r′ .cause
   pub reached : r .reached ≡ r′ .reached
   pub answers : r .answers ≡ r′ .answers
   pub unit : r .unit ≡ r′ .unit
   pub storage : SameButOffset (ccwAt chain d) (r .main) (r′ .main)
-  pub blocks : SameData size (extentAt (ccwAt chain d) main) (extentAt (ccwAt chain d) main′) (r .store) (r′ .store)
-  pub outside : KeptOutside size (extentAt (ccwAt chain d) main) store (r .store)
-  pub outside′ : KeptOutside size (extentAt (ccwAt chain d) main′) store′ (r′ .store)
+  pub blocks : SameData dev (extentAt (ccwAt chain d) main) (extentAt (ccwAt chain d) main′) (r .store) (r′ .store)
+  pub outside : KeptOutside dev (extentAt (ccwAt chain d) main) store (r .store)
+  pub outside′ : KeptOutside dev (extentAt (ccwAt chain d) main′) store′ (r′ .store)
 
-pub record SameHosted (size : ℕ) (chain : List ℕ) (d : ℕ) (main main′ store store′ : List ℕ) (r r′ : Hosted) : Type 0 where
+pub record SameHosted (dev : Device) (chain : List ℕ) (d : ℕ) (main main′ store store′ : List ℕ) (r r′ : Hosted) : Type 0 where
   pub result : r .result ≡ r′ .result
   pub answers : r .answers ≡ r′ .answers
   pub unit : r .unit ≡ r′ .unit
   pub storage : SameButOffset (ccwAt chain d) (r .main) (r′ .main)
-  pub blocks : SameData size (extentAt (ccwAt chain d) main) (extentAt (ccwAt chain d) main′) (r .store) (r′ .store)
-  pub outside : KeptOutside size (extentAt (ccwAt chain d) main) store (r .store)
-  pub outside′ : KeptOutside size (extentAt (ccwAt chain d) main′) store′ (r′ .store)
+  pub blocks : SameData dev (extentAt (ccwAt chain d) main) (extentAt (ccwAt chain d) main′) (r .store) (r′ .store)
+  pub outside : KeptOutside dev (extentAt (ccwAt chain d) main) store (r .store)
+  pub outside′ : KeptOutside dev (extentAt (ccwAt chain d) main′) store′ (r′ .store)

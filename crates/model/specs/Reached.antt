@@ -8,53 +8,52 @@
 -- and of the call. Assumes nothing.
 use Prim.Native.Nat.{ℕ, zero, suc, _+_, _*_, _≤_, _<_}
 use mathlib.Core.Path.{_≡_}
+use mathlib.Core.Bool.{false}
 use mathlib.Core.List.{List, [], _∷_, _++_}
 use lib.ListN.{getD}
 use Rattle.numbers.specs.Big.{be2, bytes2}
 use Rattle.slices.specs.Parts.{part, put}
 use Rattle.model.specs.declared.ccw.Ccw.{Ccw}
+use Rattle.model.specs.declared.device.Device.{Device}
 use Rattle.model.specs.State.{Done}
-use Rattle.model.specs.Names.{PROGRAM-CHECK}
-use Rattle.numbers.specs.Choice.{pick}
 use Rattle.model.specs.Lent.{ccwAt, fetched}
 use Rattle.model.specs.Parameters.{locateLength}
-use Rattle.model.specs.Causes.{programCheck, causesOf}
-use Rattle.model.specs.Sense.{senseOf}
-use Rattle.model.specs.Log.{withSense}
-use Rattle.model.specs.Answer.{unitStatus, residual, answerSize, answerOf}
+use Rattle.model.specs.Causes.{kindOf, causesOf}
+use Rattle.model.specs.Commands.{leaves}
+use Rattle.model.specs.Answer.{unitStatus, channelBy, residual, answerSize, answerOf}
 use Rattle.model.specs.Chain.{System, stepAt, next, Called}
 use Rattle.model.specs.Exactly.{GivenExactly}
 
-module _ (size : ℕ) (chain : List ℕ) where
+module _ (dev : Device) (chain : List ℕ) where
   unfoldable pub found : ℕ → System → System
   found zero y = y
-  found (suc i) y = next size chain i (found i y)
+  found (suc i) y = next dev chain i (found i y)
 
   -- what command i gives, in a chain that begins with system y
   abbrev pub doneAt : ℕ → System → Done
-  doneAt i y = stepAt size chain i (found i y) .done
+  doneAt i y = stepAt dev chain i (found i y) .done
 
 -- of command i, in what the chain leaves
-pub record Answered (size : ℕ) (chain : List ℕ) (y : System) (i : ℕ) (r : Called) : Type 0 where
-  pub kept : part (r .answers) (i * answerSize) answerSize ≡ answerOf (ccwAt chain i) (doneAt size chain i y)
-  pub exact : GivenExactly (causesOf size (ccwAt chain i) (found size chain i y .state) (found size chain i y .main) (found size chain i y .store)) (getD (r .answers) (i * answerSize + 4) 0)
+pub record Answered (dev : Device) (chain : List ℕ) (y : System) (i : ℕ) (r : Called) : Type 0 where
+  pub kept : part (r .answers) (i * answerSize) answerSize ≡ answerOf (ccwAt chain i) (doneAt dev chain i y)
+  pub exact : GivenExactly (causesOf dev (ccwAt chain i) (found dev chain i y .state) (found dev chain i y .main) (found dev chain i y .store)) (getD (r .answers) (i * answerSize + 4) 0)
 
 -- "In every refused command the residual is the whole count and blocks moved is 0"
 abbrev pub refusedAnswer : Ccw → ℕ → List ℕ
-refusedAnswer c w = (unitStatus w ∷ pick (programCheck w) PROGRAM-CHECK 0 ∷ []) ++ bytes2 (c .count) ++ (w ∷ 0 ∷ []) ++ bytes2 0
+refusedAnswer c w = (unitStatus (kindOf w) ∷ channelBy (kindOf w) false ∷ []) ++ bytes2 (c .count) ++ (w ∷ 0 ∷ []) ++ bytes2 0
 
 -- command i, a CCW c that found system f, was refused by cause w: the chain leaves what it found, its answer put and, by a unit check, its sense
 pub record RefusedThere (c : Ccw) (f : System) (w i : ℕ) (r : Called) : Type 0 where
   pub last : r .reached ≡ i + 1
   pub main : r .main ≡ f .main
   pub store : r .store ≡ f .store
-  pub unit : r .unit ≡ pick (programCheck w) (f .state .unit) (withSense (f .state .unit) (senseOf w (fetched c (f .main) locateLength)))
+  pub unit : r .unit ≡ leaves (kindOf w) (f .state) w (fetched c (f .main) locateLength) .unit
   pub answers : r .answers ≡ put (f .answers) (i * answerSize) (refusedAnswer c w)
 
-pub record EachReached (size : ℕ) (chain : List ℕ) (y : System) (r : Called) : Type 0 where
-  pub answered : (i : ℕ) → i < r .reached → Answered size chain y i r
-  pub refused : (i : ℕ) → i < r .reached → (doneAt size chain i y .cause ≡ 0 → ⊥)
-      → RefusedThere (ccwAt chain i) (found size chain i y) (doneAt size chain i y .cause) i r
+pub record EachReached (dev : Device) (chain : List ℕ) (y : System) (r : Called) : Type 0 where
+  pub answered : (i : ℕ) → i < r .reached → Answered dev chain y i r
+  pub refused : (i : ℕ) → i < r .reached → (doneAt dev chain i y .cause ≡ 0 → ⊥)
+      → RefusedThere (ccwAt chain i) (found dev chain i y) (doneAt dev chain i y .cause) i r
   pub not-reached : (at : ℕ) → r .reached * answerSize ≤ at → getD (r .answers) at 0 ≡ getD (y .answers) at 0
 
 -- "unit status, channel status, residual count (2), cause, zero, blocks moved (2)": no number is cut by its bytes

@@ -1,6 +1,8 @@
 // The unit's own types. What they mean stands in specs/, the unit as a definition.
 pub mod ccw;
+pub mod device;
 pub mod extent;
+pub mod kind;
 pub mod record;
 pub mod state;
 pub mod status;

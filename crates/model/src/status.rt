@@ -1,6 +1,8 @@
-// The two statuses of an answer, with their bits.
+// The two statuses of an answer, with their bits, by how the command ended.
+use crate::kind::Kind;
 ghost use mathlib.Core.Path.{_≡_};
-ghost use Rattle.model.specs.Names.{ENDED, UNIT-CHECKED, PROGRAM-CHECK};
+ghost use mathlib.Core.Bool.{false};
+ghost use Rattle.model.specs.Answer.{unitStatus, channelBy};
 
 // What the unit presents, gathered over a command.
 pub struct Status(pub u8);
@@ -12,27 +14,21 @@ impl Status {
 
     pub const UNIT_CHECK: u8 = 0x02;
 
-    // The unit did not see the command.
-    pub fn none() -> Status
-        ensures { λ r. ⌜ r .0 ≡ 0 ⌝ }
+    // Nothing, where the unit did not see the command.
+    pub fn of(kind: Kind) -> Status
+        ensures { λ r. ⌜ r .0 ≡ unitStatus kind ⌝ }
     {
-        Status(0)
-    }
-
-    pub fn ended() -> Status
-        ensures { λ r. ⌜ r .0 ≡ ENDED ⌝ }
-    {
-        Status(Status::CHANNEL_END + Status::DEVICE_END)
-    }
-
-    pub fn unit_checked() -> Status
-        ensures { λ r. ⌜ r .0 ≡ UNIT-CHECKED ⌝ }
-    {
-        Status(Status::CHANNEL_END + Status::DEVICE_END + Status::UNIT_CHECK)
+        match kind {
+            Kind::Accepted => Status(Status::CHANNEL_END + Status::DEVICE_END),
+            Kind::ProgramCheck => Status(0),
+            Kind::UnitCheck => Status(
+                Status::CHANNEL_END + Status::DEVICE_END + Status::UNIT_CHECK,
+            ),
+        }
     }
 }
 
-// What the channel adds.
+// What the channel adds; a wrong length, later.
 pub struct Channel(pub u8);
 
 impl Channel {
@@ -40,15 +36,13 @@ impl Channel {
 
     pub const INCORRECT_LENGTH: u8 = 0x40;
 
-    pub fn none() -> Channel
-        ensures { λ r. ⌜ r .0 ≡ 0 ⌝ }
+    pub fn of(kind: Kind) -> Channel
+        ensures { λ r. ⌜ r .0 ≡ channelBy kind false ⌝ }
     {
-        Channel(0)
-    }
-
-    pub fn program_check() -> Channel
-        ensures { λ r. ⌜ r .0 ≡ PROGRAM-CHECK ⌝ }
-    {
-        Channel(Channel::PROGRAM_CHECK)
+        match kind {
+            Kind::Accepted => Channel(0),
+            Kind::ProgramCheck => Channel(Channel::PROGRAM_CHECK),
+            Kind::UnitCheck => Channel(0),
+        }
     }
 }

@@ -17,7 +17,7 @@ unfolding pick
 pick-false b x y e = rw e
 
 -- two that are picked by one test
-pub pick-both : {A : Type 0} (P : A → A → Type 0) (b : Bool) (x y z w : A) → (b ≡ true → P x z) → (b ≡ false → P y w) → P (pick b x y) (pick b z w)
+pub pick-both : {A B : Type 0} (P : A → B → Type 0) (b : Bool) (x y : A) (z w : B) → (b ≡ true → P x z) → (b ≡ false → P y w) → P (pick b x y) (pick b z w)
 unfolding pick
 pick-both P true x y z w f g = f refl
 pick-both P false x y z w f g = g refl

@@ -1,7 +1,6 @@
 -- Big-endian numbers (01, What is lent: "All numbers here are big-endian").
 --     be2 be3 be4     the number in 2, 3 or 4 bytes of a list, from a place on
---     bytes2 bytes3   the bytes of a number, its low 16 or 24 bits
---     bytes8          the bytes of a number of 64 bits
+--     bytes2 bytes3 bytes4   the bytes of a number, its low 16, 24 or 32 bits
 -- Assumes nothing.
 use Prim.Native.Nat.{ℕ, _+_, _*_, _/_, _%_}
 use mathlib.Core.List.{List, [], _∷_}
@@ -22,7 +21,5 @@ bytes2 n = n / 256 % 256 ∷ n % 256 ∷ []
 abbrev pub bytes3 : ℕ → List ℕ
 bytes3 n = n / 65536 % 256 ∷ n / 256 % 256 ∷ n % 256 ∷ []
 
-abbrev pub bytes8 : ℕ → List ℕ
-bytes8 n =
-    n / 0x100000000000000 ∷ n / 0x1000000000000 % 256 ∷ n / 0x10000000000 % 256 ∷ n / 0x100000000 % 256
-    ∷ n / 0x1000000 % 256 ∷ n / 0x10000 % 256 ∷ n / 0x100 % 256 ∷ n % 256 ∷ []
+abbrev pub bytes4 : ℕ → List ℕ
+bytes4 n = n / 16777216 % 256 ∷ n / 65536 % 256 ∷ n / 256 % 256 ∷ n % 256 ∷ []

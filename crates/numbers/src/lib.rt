@@ -1,9 +1,9 @@
 // How bytes are numbers: big-endian, as the unit's parameters and answers hold them.
-// Reads (`be2`, `be3`, `be4`, `number2`, `number3`) are exact; writes (`bytes2`, `bytes3`) take the low bits, so they refuse nothing; `bytes8` takes all.
+// Reads (`be2`, `be3`, `be4`, `number2`, `number3`) are exact; writes (`bytes2`, `bytes3`, `bytes4`) take the low bits, so they refuse nothing.
 ghost use mathlib.Core.Path.{_≡_};
 ghost use Prim.Native.Nat.{_+_, _≤_, _<_};
 ghost use lib.ListN.{length};
-ghost use Rattle.numbers.specs.Big.{be2, be3, be4, bytes2, bytes3, bytes8};
+ghost use Rattle.numbers.specs.Big.{be2, be3, be4, bytes2, bytes3, bytes4};
 
 // A byte, wider. It hands on the bound that a sum of bytes needs.
 pub fn wide(x: u8) -> usize
@@ -69,15 +69,11 @@ pub fn bytes3(n: usize) -> [u8; 3]
     ]
 }
 
-// A number of 64 bits, as 8 bytes.
-pub fn bytes8(n: u64) -> [u8; 8]
-    ensures { λ r. ⌜ r ≡ bytes8 n ⌝ }
+// The low 32 bits of a number, as 4 bytes.
+pub fn bytes4(n: usize) -> [u8; 4]
+    ensures { λ r. ⌜ r ≡ bytes4 n ⌝ }
 {
     [
-        (n / 0x100000000000000) as u8,
-        (n / 0x1000000000000 % 256) as u8,
-        (n / 0x10000000000 % 256) as u8,
-        (n / 0x100000000 % 256) as u8,
         (n / 0x1000000 % 256) as u8,
         (n / 0x10000 % 256) as u8,
         (n / 0x100 % 256) as u8,

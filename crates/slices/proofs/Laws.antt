@@ -10,7 +10,7 @@ use native.Mathlib.Numerals.{add-one}
 use native.Mathlib.Omega.{arith}
 use lib.Dec.{ltb}
 use lib.ListN.{length, getD, set, take, drop, length-append, length-take, length-drop, length-replicate, take-append-drop, drop-of-length-le, List·getD-append}
-use lib.Seq.{ext-getD, set-append-seam, length-take-le, take-length, take-all, drop-nil, drop-length, drop-drop, drop-cons, drop-append-le, take-add, take-at, drop-at, getD-take, getD-drop, getD-append-add}
+use lib.Seq.{take-nil, ext-getD, set-append-seam, length-take-le, take-length, take-all, drop-nil, drop-length, drop-drop, drop-cons, drop-append-le, take-add, take-at, drop-at, getD-take, getD-drop, getD-append-add}
 use borrow.Author.Fill.{fill-more}
 use borrow.Author.Tests.{ltb-true, ltb-false}
 use borrow.Rule.Slice.PartMut.{midOf, putMid, mid-len, post-is}
@@ -259,6 +259,28 @@ unfolding pad
 pad-fits n l =
     let e : n - min n (length l) ≡ n - length l = omega arith in
     rw (take-fits, e)
+
+-- some bytes of some
+
+pub take-min : (n m : ℕ) (l : List ℕ) → take n (take m l) ≡ take (min n m) l
+take-min zero m l = rw zero-min
+take-min (suc n) zero l = rw min-zero
+take-min (suc n) (suc m) [] = rw suc-min-suc
+take-min (suc n) (suc m) (b ∷ l) = rw (suc-min-suc, take-min n m l)
+
+pub drop-take : (n m : ℕ) (l : List ℕ) → drop n (take m l) ≡ take (m - n) (drop n l)
+drop-take zero m l = rw sub-zero
+drop-take (suc n) zero l = rw zero-sub
+drop-take (suc n) (suc m) [] = rw suc-sub-suc (sym (take-nil (m - n)))
+drop-take (suc n) (suc m) (b ∷ l) = rw suc-sub-suc (drop-take n m l)
+
+-- what fills n bytes needs no more of the bytes than n
+pub pad-min : (n m : ℕ) (l : List ℕ) → pad n (take (min n m) l) ≡ pad n (take m l)
+unfolding pad
+pad-min n m l =
+    let e : min n (min n m) ≡ min n m = omega arith in
+    let f : n - min (min n m) (length l) ≡ n - min m (length l) = omega arith in
+    rw (take-min n (min n m) l, e, take-min n m l, length-take, f, length-take)
 
 -- `d` is the block, `b` the block with the bytes copied, `back` what `&mut b[n..]` came back as
 pub pad-cleared : (d l b back : List ℕ) (n : ℕ) → n ≡ min (length d) (length l) → b ≡ put d 0 (take n l) → back ≡ zeros (length (midOf n (length b - n) b))

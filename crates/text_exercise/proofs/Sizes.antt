@@ -35,7 +35,7 @@ block-bytes (suc n) b h = bytes-cons b _ h (block-bytes n b h)
 device-bytes : (n : ℕ) → n ≤ 256 → AreBytes (device n)
 unfolding device
 device-bytes zero h = bytes-nil
-device-bytes (suc n) h = bytes-append (device n) _ (device-bytes n (omega arith)) (block-bytes classA n (omega arith))
+device-bytes (suc n) h = bytes-append (device n) _ (device-bytes n (omega arith)) (block-bytes (classA .block) n (omega arith))
 
 new-fields : (ready readonly : ℕ) → ready < 256 → readonly < 256 → IsRecord (newRecord ready readonly)
 unfolding newRecord

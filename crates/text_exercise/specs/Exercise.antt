@@ -16,10 +16,10 @@ use Rattle.text_output.specs.Printout.{refusal, printout}
 
 unfoldable pub device : ℕ → List ℕ
 device zero = []
-device (suc n) = device n ++ replicate classA n
+device (suc n) = device n ++ replicate (classA .block) n
 
 abbrev pub mostStore : ℕ
-mostStore = mostBlocks * classA
+mostStore = mostBlocks * classA .block
 
 unfoldable pub performed : Exercise → Called
 performed e =

@@ -1,7 +1,7 @@
 // A chain as text, and what happened as text: `exercise`. Any input gets its answer; one with a wrong line gets that line's number.
 use in_place::run_lending;
-use layout::new_record;
 use model::record::Record;
+use record::new_record;
 use text_input::MOST_BLOCKS;
 use text_input::MOST_CHAIN;
 use text_input::MOST_STORAGE;
@@ -30,7 +30,7 @@ const PER_CAUSE: usize = 256;
 
 // Block i of the store is filled with byte i.
 fn number_blocks(store: &mut [u8], blocks: usize)
-    requires { ⌜ (length (now store) ≡ blocks * classA) × (blocks ≤ mostBlocks) ⌝ }
+    requires { ⌜ (length (now store) ≡ blocks * classA .block) × (blocks ≤ mostBlocks) ⌝ }
     ensures { λ _. ⌜ now (store .exit) ≡ device blocks ⌝ }
 {
     for i in 0..store.len() {

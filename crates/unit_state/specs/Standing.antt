@@ -1,22 +1,57 @@
--- What the code carries while a chain runs stands for a state of the definition, given the record that the chain found.
+-- What the code carries while a chain runs, beside the record that the chain found, and what it stands for in the definition.
+--     started, wentOn, withExtent, withLocate, passedOn
+--                                 what is carried: at the start, after a command that zeroed the sense, with another extent, with
+--                                 another LOCATE, after a command that changed nothing
 --     senseNow, unitOf, stateOf   the pending sense, the unit record and the state that a `Running` stands for
---     senseLeft, stateLeft        the same for a `Left`: a unit check leaves the sense of its cause
---     Secure                      the state is safe, whatever record the chain found
--- Assumes nothing.
-use Prim.Native.Nat.{ℕ}
-use mathlib.Core.Bool.{Bool}
+--     stateLeft                   the state that a `Left` stands for: how its cause leaves the one that is carried
+--     Sound                       a device that a chain may run on, and a state that is safe on it, whatever record the chain found
+--     Handed                      the CCW of a command that the channel passed on: its data area is in main storage
+-- The layers between the ways in ask each other for `Sound` and `Handed`, and for nothing else. Assumes nothing.
+use Prim.Native.Nat.{ℕ, _+_, _≤_, _<_}
+use mathlib.Core.Bool.{Bool, true, false}
 use mathlib.Core.List.{List}
+use lib.ListN.{length}
+use Rattle.numbers.specs.Choice.{pick}
 use Rattle.slices.specs.Parts.{zeros}
+use Rattle.model.specs.declared.ccw.Ccw.{Ccw}
+use Rattle.model.specs.declared.device.Device.{Device}
+use Rattle.model.specs.declared.extent.Extent.{Extent}
+use Rattle.model.specs.declared.extent.Located.{Located}
+use Rattle.model.specs.declared.record.Counts.{Counts}
 use Rattle.model.specs.declared.record.Record.{Record}
+use Rattle.model.specs.declared.state.Before.{Before}
+use Rattle.model.specs.declared.state.Before.the-variants.{Nothing, Locate, Other}
 use Rattle.model.specs.State.{State}
-use Rattle.numbers.specs.Choice.{_<?_, pick}
-use Rattle.model.specs.Sense.{senseOf}
+use Rattle.model.specs.Lent.{blockCount}
+use Rattle.model.specs.Causes.{kindOf}
 use Rattle.model.specs.Log.{withSense}
-use Rattle.model.specs.Commands.{after}
+use Rattle.model.specs.Commands.{leaves}
 use Rattle.model.specs.Safe.{Safe}
 use Rattle.log.specs.Counts.{counted}
 use Rattle.unit_state.specs.declared.Running.{Running}
 use Rattle.unit_state.specs.declared.Left.{Left}
+
+abbrev pub started : Record → Running
+started u = record {
+  kept = true;
+  defined = false;
+  before = Nothing;
+  counts = record { «blocks_read» = u .«blocks_read»; «blocks_written» = u .«blocks_written»; movements = u .movements };
+  extent = record { mask = 0; offset = record { 0 = 0 }; first = record { 0 = 0 }; last = record { 0 = 0 } };
+  located = record { operation = 0; displacement = record { 0 = 0 }; blocks = 0 };
+}
+
+abbrev pub wentOn : Running → Counts → Before → Running
+wentOn s k before = record { kept = false; defined = s .defined; before = before; counts = k; extent = s .extent; located = s .located }
+
+abbrev pub withExtent : Running → Counts → Extent → Before → Running
+withExtent s k e before = record { kept = false; defined = true; before = before; counts = k; extent = e; located = s .located }
+
+abbrev pub withLocate : Running → Counts → Located → Running
+withLocate s k l = record { kept = false; defined = s .defined; before = Locate; counts = k; extent = s .extent; located = l }
+
+abbrev pub passedOn : Running → Running
+passedOn s = record { kept = s .kept; defined = s .defined; before = Other; counts = s .counts; extent = s .extent; located = s .located }
 
 unfoldable pub senseNow : List ℕ → Bool → List ℕ
 senseNow found kept = pick kept found (zeros 24)
@@ -27,14 +62,16 @@ unitOf u s = counted (withSense u (senseNow (u .sense) (s .kept))) (s .counts)
 unfoldable pub stateOf : Record → Running → State
 stateOf u s = record { unit = unitOf u s; defined = s .defined; extent = s .extent; before = s .before; located = s .located }
 
--- unit checks begin at 20; what is below them, 0 too, leaves the pending sense as it is
-unfoldable pub senseLeft : List ℕ → ℕ → List ℕ → List ℕ
-senseLeft pending cause parameters = pick (cause <? 20) pending (senseOf cause parameters)
+abbrev pub stateLeft : Record → Left → State
+stateLeft u l = leaves (kindOf (l .cause)) (stateOf u (l .state)) (l .cause) (l .parameters)
 
-unfoldable pub stateLeft : Record → Left → State
-stateLeft u l =
-    let s = stateOf u (l .state) in
-    after s (withSense (s .unit) (senseLeft (s .unit .sense) (l .cause) (l .parameters))) (s .before)
+pub record Sound (dev : Device) (s : Running) (store : List ℕ) : Type 0 where
+  pub some-size : 1 ≤ dev .block
+  pub small-size : dev .block ≤ 65535
+  pub some-block : 1 ≤ blockCount dev store
+  pub few-blocks : blockCount dev store ≤ 131072
+  pub safe : (u : Record) → Safe (stateOf u s) (blockCount dev store)
 
-pub record Secure (s : Running) (blocks : ℕ) : Type 0 where
-  pub safe : (u : Record) → Safe (stateOf u s) blocks
+pub record Handed (c : Ccw) (main : List ℕ) : Type 0 where
+  pub count : c .count < 65536
+  pub area : c .address + c .count ≤ length main

@@ -1,4 +1,5 @@
-// What changes while a chain runs, beside the record that it found; the state after a command; and the record at the end.
+// What changes while a chain runs, beside the record that it found, and the state after a command. A command that leaves other
+// sense than none, or than what was found, ends the chain: its cause is then beside the state, in `Left`.
 use model::extent::Displacement;
 use model::extent::Extent;
 use model::extent::Located;
@@ -6,29 +7,22 @@ use model::extent::Offset;
 use model::record::Counts;
 use model::record::Record;
 use model::state::Before;
-use sense_table::sense_of;
 ghost use mathlib.Core.Path.{_≡_};
-ghost use Rattle.slices.specs.Parts.{zeros};
-ghost use Rattle.model.specs.Log.{withSense};
-ghost use Rattle.model.specs.Commands.{after, extentSet, locateSet};
-ghost use Rattle.model.specs.Chain.{start};
-ghost use Rattle.model.specs.declared.state.Before.the-variants.{Other};
-ghost use Rattle.log.specs.Counts.{counted};
-ghost use Rattle.unit_state.specs.Standing.{senseNow, unitOf, stateOf, senseLeft, stateLeft};
+ghost use Rattle.unit_state.specs.Standing.{started, wentOn, withExtent, withLocate, passedOn, senseNow};
 
 // `kept`: the pending sense is still what the chain found; else there is none.
 pub struct Running {
-    pub kept: bool,
-    pub defined: bool,
-    pub before: Before,
-    pub counts: Counts,
     pub extent: Extent,
     pub located: Located,
+    pub counts: Counts,
+    pub before: Before,
+    pub kept: bool,
+    pub defined: bool,
 }
 
 // No extent, and no command before: nothing is kept from an earlier chain but the record.
 pub fn start(u: Record) -> Running
-    ensures { λ r. ⌜ stateOf u r ≡ start u ⌝ }
+    ensures { λ r. ⌜ r ≡ started u ⌝ }
 {
     let read = u.blocks_read;
     let written = u.blocks_written;
@@ -65,14 +59,14 @@ pub fn sense_now(found: [u8; 24], kept: bool) -> [u8; 24]
 
 // The state after a command that zeroed the sense: these counts, and what the next command has before it.
 pub fn after(s: Running, k: Counts, before: Before) -> Running
-    ensures { λ r. ⌜ ((u : Record) → stateOf u r ≡ after (stateOf u s) (counted (withSense u (zeros 24)) k) before) ⌝ }
+    ensures { λ r. ⌜ r ≡ wentOn s k before ⌝ }
 {
     let e = s.extent;
     let l = s.located;
     Running {
         kept: false,
-        defined: s.defined, // an extent that stood stands
-        before: before, // for the next command to test
+        defined: s.defined,
+        before: before,
         counts: k,
         extent: e,
         located: l,
@@ -81,13 +75,13 @@ pub fn after(s: Running, k: Counts, before: Before) -> Running
 
 // The same, with another extent.
 pub fn extent_set(s: Running, k: Counts, e: Extent, before: Before) -> Running
-    ensures { λ r. ⌜ ((u : Record) → stateOf u r ≡ extentSet (stateOf u s) (counted (withSense u (zeros 24)) k) e before) ⌝ }
+    ensures { λ r. ⌜ r ≡ withExtent s k e before ⌝ }
 {
     let l = s.located;
     Running {
         kept: false,
         defined: true,
-        before: before, // READ IPL, or another command
+        before: before,
         counts: k,
         extent: e,
         located: l,
@@ -96,12 +90,12 @@ pub fn extent_set(s: Running, k: Counts, e: Extent, before: Before) -> Running
 
 // The same, with another LOCATE.
 pub fn locate_set(s: Running, k: Counts, l: Located) -> Running
-    ensures { λ r. ⌜ ((u : Record) → stateOf u r ≡ locateSet (stateOf u s) (counted (withSense u (zeros 24)) k) l) ⌝ }
+    ensures { λ r. ⌜ r ≡ withLocate s k l ⌝ }
 {
     let e = s.extent;
     Running {
         kept: false,
-        defined: s.defined, // locates in the extent that stands
+        defined: s.defined,
         before: Before::Locate,
         counts: k,
         extent: e,
@@ -111,14 +105,14 @@ pub fn locate_set(s: Running, k: Counts, l: Located) -> Running
 
 // The state after a command that changed nothing in it, but stands before the next.
 pub fn passed(s: Running) -> Running
-    ensures { λ r. ⌜ ((u : Record) → stateOf u r ≡ after (stateOf u s) (unitOf u s) Other) ⌝ }
+    ensures { λ r. ⌜ r ≡ passedOn s ⌝ }
 {
     let k = s.counts;
     let e = s.extent;
     let l = s.located;
     Running {
         kept: s.kept,
-        defined: s.defined, // and the extent with it
+        defined: s.defined,
         before: Before::Other,
         counts: k,
         extent: e,
@@ -126,41 +120,29 @@ pub fn passed(s: Running) -> Running
     }
 }
 
+// The same, field by field: a copy of the whole is one of its gaps too, which the compiler then carries along.
+pub fn carried(s: Running) -> Running
+    ensures { λ r. ⌜ r ≡ s ⌝ }
+{
+    let extent = s.extent;
+    let located = s.located;
+    let counts = s.counts;
+    let before = s.before;
+    let sense = s.kept;
+    Running {
+        extent: extent,
+        located: located,
+        counts: counts,
+        before: before,
+        kept: sense,
+        defined: s.defined,
+    }
+}
+
 // How a command leaves the unit, or a chain: the state, the cause by which it was refused, or 0, and the parameters that 39 shows.
+// A refused command has the state here that it found.
 pub struct Left {
     pub state: Running,
     pub parameters: [u8; 8],
     pub cause: u8,
-}
-
-// The sense that is left, in a chain that found this one.
-fn sense_left(found: [u8; 24], l: Left) -> [u8; 24]
-    ensures { λ r. ⌜ r ≡ senseLeft (senseNow found (l .state .kept)) (l .cause) (l .parameters) ⌝ }
-{
-    let s = l.state;
-    let parameters = l.parameters;
-    if l.cause < 20 {
-        return sense_now(found, s.kept);
-    }
-    sense_of(l.cause, parameters)
-}
-
-// The record that is left, in a chain that found this one.
-pub fn record_left(u: Record, l: Left) -> Record
-    ensures { λ r. ⌜ r ≡ stateLeft u l .unit ⌝ }
-{
-    let s = l.state;
-    let k = s.counts;
-    let found = u.sense;
-    let read = k.blocks_read;
-    let written = k.blocks_written;
-    let movements = k.movements;
-    Record {
-        sense: sense_left(found, l),
-        blocks_read: read,
-        blocks_written: written,
-        movements: movements,
-        ready: u.ready,
-        read_only: u.read_only,
-    }
 }

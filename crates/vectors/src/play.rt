@@ -5,9 +5,9 @@ use crate::show;
 use crate::words;
 use crate::words::Vector;
 use in_place::Ran;
-use layout::same_count;
-use layout::same_sense;
 use model::record::Record;
+use record::same_count;
+use record::same_sense;
 
 // The settings of a vector, each a bit; two bits more say which store (`store_bytes`).
 const NOT_READY: u64 = 0x01;
@@ -76,7 +76,7 @@ fn nearly_full(unit: Record) -> Record {
 fn fresh(setting: u64) -> Record {
     let ready = yes_or_no(!has(setting, NOT_READY), setting);
     let read_only = yes_or_no(has(setting, READ_ONLY), setting);
-    let unit = layout::new_record(ready, read_only);
+    let unit = record::new_record(ready, read_only);
     if has(setting, NEARLY_FULL) {
         nearly_full(unit)
     } else {

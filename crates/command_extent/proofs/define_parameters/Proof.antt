@@ -15,7 +15,7 @@ use Rattle.command_extent.proofs.define_parameters.Statement.{statement
 use Rattle.command_extent.proofs.define_parameters.Tie as tie
 
 abbrev lines : tie.Start → List Rule
-lines c = extentCauses (c .args .size) (c .args .blocks) (c .args .p .now)
+lines c = extentCauses (c .args .d) (c .args .blocks) (c .args .p .now)
 
 -- the first k lines do not give the verdict
 abbrev Past : ℕ → tie.Start → Type 0
@@ -30,7 +30,7 @@ unfolding extentCauses extentIn
 past-maintenance c = past-mask (c .before .before .before) ∙ first-later _ _ (sym (c .before .maintenance .ensures) ∙ c .if2 .left)
 
 -- the third line, as the code tests it
-size-tested : (c : tie.After-size-wrong) → not (oneOf (0 ∷ c .before .before .before .before .before .before .before .before .before .before .before .args .size ∷ []) (sizeIn (c .before .before .before .before .before .before .before .before .before .before .before .args .p .now))) ≡ c .size-wrong .result
+size-tested : (c : tie.After-size-wrong) → not (oneOf (0 ∷ c .before .before .before .before .before .before .before .before .before .before .before .args .d .block ∷ []) (sizeIn (c .before .before .before .before .before .before .before .before .before .before .before .args .p .now))) ≡ c .size-wrong .result
 unfolding sizeIn
 size-tested c = rw (← (c .before .be2 .ensures .0)) (sym (c .size-wrong .ensures))
 

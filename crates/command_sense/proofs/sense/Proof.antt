@@ -1,19 +1,19 @@
 -- `sense` meets its contract. Assumes nothing.
-use mathlib.Core.Path.{_≡_, ap, _∙_}
+use mathlib.Core.Path.{_≡_}
 use lib.ListN.{length}
+use Rattle.command_sense.proofs.Sending.{sense-ends}
 use borrow.Author.Needs.{needs}
-use Rattle.endings.specs.Report.{outcomeOf}
-use Rattle.command_sense.proofs.Sending.{sense-sent}
 use Rattle.command_sense.proofs.sense.Statement.{statement}
 use Rattle.command_sense.proofs.sense.Tie as tie
 
 returns : tie.Need-returns
 returns c =
-    let args = c .before .before .before .before .before .before .before .before .args in
-    let send = c .before .before .send in
-    let sense-now = c .before .before .before .before .before .sense-now in
-    let long : length (sense-now .result) ≡ 24 = search needs in
-    λ store. send .ensures (args .u) store ∙ ap (outcomeOf (args .c)) (sense-sent (args .u) (args .c) (args .s) (args .main .now) store _ (sense-now .ensures) long)
+    let sent = c .before .before in
+    let now = sent .before .before .before in
+    let first = now .before .before .before in
+    let a = first .args in
+    let long : length (now .sense-now .result) ≡ 24 = search needs in
+    λ d store. sense-ends (a .u) d (a .c) (a .s) (a .main .now) store _ _ _ (first .pre .1) (now .sense-now .ensures) long (sent .send .ensures .1) (sent .send .ensures .0)
 
 pub sense-spec : {M : Type 1} → statement M
 sense-spec =

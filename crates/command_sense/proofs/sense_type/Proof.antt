@@ -1,16 +1,16 @@
 -- `sense_type` meets its contract. Assumes nothing.
-use mathlib.Core.Path.{ap, _∙_}
+use mathlib.Core.Path.{refl}
+use Rattle.command_sense.proofs.Sending.{type-ends}
 use borrow.Author.Needs.{needs}
-use Rattle.endings.specs.Report.{outcomeOf}
-use Rattle.command_sense.proofs.Sending.{type-sent}
 use Rattle.command_sense.proofs.sense_type.Statement.{statement}
 use Rattle.command_sense.proofs.sense_type.Tie as tie
 
 returns : tie.Need-returns
 returns c =
-    let args = c .before .before .before .before .before .before .args in
-    let send = c .before .before .send in
-    λ u store. send .ensures u store ∙ ap (outcomeOf (args .c)) (type-sent u (args .c) (args .s) (args .main .now) store)
+    let sent = c .before .before in
+    let first = sent .before .before .before .before in
+    let a = first .args in
+    λ u d store. type-ends u d (a .c) (a .s) (a .main .now) store _ _ _ (first .pre .1) refl (sent .send .ensures .1) (sent .send .ensures .0)
 
 pub sense-type-spec : {M : Type 1} → statement M
 sense-type-spec =

@@ -1,28 +1,26 @@
--- `located_move` meets its contract. Assumes nothing.
-use mathlib.Core.Path.{refl}
+-- `located_move` meets its contract: a sound state places the blocks. Assumes nothing.
 use native.Mathlib.Omega.{arith}
-use Rattle.command_transfer.proofs.Transfers.{placed}
+use Rattle.command_transfer.proofs.Transfers.{Placed, placed}
 use borrow.Author.Needs.{needs}
 use Rattle.command_transfer.proofs.located_move.Statement.{statement}
 use Rattle.command_transfer.proofs.located_move.Tie as tie
 
-address-requires : tie.Need-address-requires
-address-requires c κs =
-    let pre = c .before .before .before .pre in
-    placed _ _ _ _ (pre .0) (pre .1) (pre .2) .from-first
+lies : (c : tie.Start) → Placed (c .args .d) (c .args .s .extent) (c .args .s .located) (c .args .store .now)
+lies c = placed (c .args .d) (c .args .s) (c .args .store .now) (c .pre .0) (c .pre .1)
 
 mul-can : tie.Need-mul-can
-mul-can c =
-    let pre = c .before .before .before .before .before .pre in
-    record { fits = omega (arith, placed _ _ _ _ (pre .0) (pre .1) (pre .2) .product) }
+mul-can c = omega (arith, lies (c .before .before .before .before .before) .product)
+
+address-requires : tie.Need-address-requires
+address-requires c κs = lies (c .before .before .before .before .before) .from-first
 
 returns : tie.Need-returns
-returns c = (c .before .before .address .ensures, refl, c .least .ensures)
+returns c = rw (c .least .ensures, c .before .address .ensures)
 
 pub located-move-spec : {M : Type 1} → statement M
 located-move-spec = tie.close
     (tie.spec
-    address-requires
     mul-can
+    address-requires
     (search needs)  -- least-requires
     returns)

@@ -1,84 +1,77 @@
--- `read` meets its contract. Both refusals are lines of the table; past them a safe state places the blocks in the store (`placed`), and the parts moved make up READ (`read-moved`). Assumes nothing.
-use mathlib.Core.Path.{sym, _∙_}
+-- `read` meets its contract. Both refusals are lines of its table; past them a sound state places the blocks, which are moved. Assumes nothing.
+use mathlib.Core.Path.{refl, sym, _∙_}
 use native.Mathlib.Omega.{arith}
+use borrow.Author.Needs.{needs}
 use borrow.Author.Tests.{not-false}
 use Rattle.model.specs.Parameters.{reads}
-use Rattle.endings.proofs.Deciding.{refused-outcome, accepted-outcome}
-use Rattle.command_transfer.proofs.Transfers.{placed, no-locate, other-locate, no-cause, read-moved}
-use borrow.Author.Needs.{needs}
+use Rattle.model.proofs.Steps.{performed-read}
+use Rattle.endings.proofs.Ends.{refused-by}
+use Rattle.command_transfer.proofs.Transfers.{placed, no-locate, other-locate, no-cause, read-ends}
 use Rattle.command_transfer.proofs.read.Statement.{statement}
 use Rattle.command_transfer.proofs.read.Tie as tie
 
-refuse-requires : tie.Need-refuse-requires
-refuse-requires c κs = (c .before .before .before .before .before .pre .0 .count, omega arith, λ e. omega arith)
-
 returns : tie.Need-returns
 returns c =
-    let args = c .before .before .before .before .before .before .args in
-    let after-locate = c .before .before .after-locate in
-    let if1 = c .before .if1 in
-    λ u. refused-outcome u _ _ _ _ _ _ 41 _ (no-locate reads u (args .s) _ (after-locate .ensures) (if1 .taken)) (λ z. omega arith) (c .refuse .ensures u _)
-
-refuse-requires-2 : tie.Need-refuse-requires-2
-refuse-requires-2 c κs = (c .before .before .before .before .before .before .before .pre .0 .count, omega arith, λ e. omega arith)
+    let tested = c .before in
+    let first = tested .before .before .before .before .before in
+    let a = first .args in
+    λ u. refused-by u (a .c) (a .s) (a .main .now) (a .store .now) _ _ _ 41 _ (performed-read (a .d) (a .c) _ (a .main .now) (a .store .now) (first .pre .2)) (c .refuse .ensures)
+    (no-locate reads u (a .s) _ (tested .before .after-locate .ensures) (tested .if1 .taken)) refl refl
 
 returns-2 : tie.Need-returns-2
 returns-2 c =
-    let args = c .before .before .before .before .before .before .before .before .args in
-    let after-locate = c .before .before .before .before .after-locate in
-    let if1 = c .before .before .before .if1 in
-    let is-read = c .before .before .is-read in
-    let if2 = c .before .if2 in
-    λ u. refused-outcome u _ _ _ _ _ _ 42 _ (other-locate reads u (args .s) _ (after-locate .ensures) _ (is-read .ensures) (if1 .left) (if2 .taken)) (λ z. omega arith) (c .refuse2 .ensures u _)
+    let tested = c .before .before .before in
+    let first = tested .before .before .before .before .before in
+    let a = first .args in
+    λ u. refused-by u (a .c) (a .s) (a .main .now) (a .store .now) _ _ _ 42 _ (performed-read (a .d) (a .c) _ (a .main .now) (a .store .now) (first .pre .2)) (c .refuse2 .ensures)
+    (other-locate reads u (a .s) _ (tested .before .after-locate .ensures) _ (c .before .before .is-read .ensures) (tested .if1 .left) (c .before .if2 .taken)) refl refl
 
 located-move-requires : tie.Need-located-move-requires
 located-move-requires c κs =
-    let pre = c .before .before .before .before .before .before .before .pre in
-    let after-locate = c .before .before .before .after-locate in
-    let if1 = c .before .before .if1 in
-    (pre .0, pre .1, sym (after-locate .ensures) ∙ not-false _ (if1 .left))
+    let tested = c .before .before in
+    (tested .before .before .before .before .before .pre .0, sym (tested .before .after-locate .ensures) ∙ not-false _ (tested .if1 .left))
 
-blocks-to-requires : tie.Need-blocks-to-requires
-blocks-to-requires c κs =
-    let pre = c .before .before .before .before .before .before .before .before .before .pre in
-    let after-locate = c .before .before .before .before .before .after-locate in
-    let if1 = c .before .before .before .before .if1 in
-    let located-move = c .before .located-move in
-    let k = placed _ _ _ _ (pre .0) (pre .1) (sym (after-locate .ensures) ∙ not-false _ (if1 .left)) in
-    let n = located-move .ensures .2 in
-    let w = pre .0 .count in
-    let r = pre .2 in
-    (rw (located-move .ensures .0) (k .room), omega (arith, n), omega (arith, n, w), omega (arith, n, r))
+read-blocks-requires : tie.Need-read-blocks-requires
+read-blocks-requires c κs =
+    let moved = c .before in
+    let tested = moved .before .before .before in
+    let first = tested .before .before .before .before .before in
+    let a = first .args in
+    let k = placed (a .d) (a .s) (a .store .now) (first .pre .0) (sym (tested .before .after-locate .ensures) ∙ not-false _ (tested .if1 .left)) in
+    let m = moved .located-move .ensures in
+    (first .pre .0 .some-size, first .pre .0 .small-size, rw m (k .room), rw m (omega arith), rw m (omega (arith, first .pre .1 .area)))
 
 read-done-requires : tie.Need-read-done-requires
 read-done-requires c κs =
-    let z = c .before .before .before .before .before .before .before .before .before .before .before .before .pre .0 in
-    let n = c .before .before .before .before .located-move .ensures .2 in
-    (z .some, z .small, z .count, omega (arith, n))
+    let moved = c .before .before .before .before in
+    let tested = moved .before .before .before in
+    let first = tested .before .before .before .before .before in
+    (first .pre .0 .some-size, first .pre .0 .small-size, first .pre .1 .count, rw (moved .located-move .ensures) (omega arith))
 
 returns-3 : tie.Need-returns-3
 returns-3 c =
-    let args = c .before .before .before .before .before .before .before .before .before .before .before .before .before .args in
-    let after-locate = c .before .before .before .before .before .before .before .before .before .after-locate in
-    let if1 = c .before .before .before .before .before .before .before .before .if1 in
-    let is-read = c .before .before .before .before .before .before .before .is-read in
-    let if2 = c .before .before .before .before .before .before .if2 in
-    let move = c .before .before .before .before .before .located-move .ensures in
-    let blocks-to = c .before .before .before .blocks-to in
-    λ u. accepted-outcome _ _ _ _ _ _ _ (no-cause reads u (args .s) _ (after-locate .ensures) _ (is-read .ensures) (if1 .left) (if2 .left)) (read-moved (args .size) u (args .c) (args .s) _ (args .main .now) (args .store .now) _ _ _ _ (move .0) (move .1) (move .2) (blocks-to .ensures) (c .read-done .ensures u))
+    let stored = c .before .before .before in
+    let moved = stored .before .before in
+    let tried = moved .before in
+    let tested = tried .before .before in
+    let first = tested .before .before .before .before .before in
+    let a = first .args in
+    λ u. read-ends u (a .d) (a .c) (a .s) (a .main .now) (a .store .now) _ _ _ (first .pre .2)
+    (no-cause reads u (a .s) _ (tested .before .after-locate .ensures) _ (tried .before .is-read .ensures) (tested .if1 .left) (tried .if2 .left))
+    (c .read-done .ensures) (moved .located-move .ensures) (stored .read-blocks .ensures)
 
 pub read-spec : {M : Type 1} → statement M
 read-spec =
     tie.close
     (tie.spec
     (search needs)  -- after-locate-requires
-    refuse-requires
+    (search needs)  -- refuse-requires
     returns
     (search needs)  -- is-read-requires
-    refuse-requires-2
+    (search needs)  -- refuse-requires-2
     returns-2
     located-move-requires
-    blocks-to-requires
+    read-blocks-requires
     read-done-requires
     (search needs)  -- same-length
     returns-3)

@@ -1,65 +1,57 @@
--- `read_ipl` meets its contract. One refusal, then block 0: the device has it, so the bounds hold (`in-store`). Assumes nothing.
-use mathlib.Core.Path.{sym, ap, _∙_}
+-- `read_ipl` meets its contract. 40 is the line of its table; past it block 0 is moved. Assumes nothing.
+use mathlib.Core.Path.{refl, sym, ap, _∙_}
 use mathlib.Core.Bool.{not}
 use native.Mathlib.Omega.{arith}
-use Rattle.model.specs.Lent.{blockCount}
+use borrow.Author.Needs.{needs}
 use Rattle.model.specs.Causes.{readIplCauses}
 use Rattle.model.proofs.Verdicts.{first-here, first-later, first-none}
 use Rattle.model.proofs.Lengths.{in-store}
+use Rattle.model.proofs.Steps.{performed-read-ipl}
 use Rattle.unit_state.specs.Standing.{stateOf}
-use Rattle.endings.proofs.Deciding.{refused-outcome, accepted-outcome}
-use Rattle.command_transfer.proofs.Transfers.{few-blocks, ipl-moved}
-use borrow.Author.Needs.{needs}
+use Rattle.endings.proofs.Ends.{refused-by}
+use Rattle.command_transfer.proofs.Transfers.{ipl-ends}
 use Rattle.command_transfer.proofs.read_ipl.Statement.{statement}
 use Rattle.command_transfer.proofs.read_ipl.Tie as tie
-
-refuse-requires : tie.Need-refuse-requires
-refuse-requires c κs = (c .before .before .before .before .pre .0 .count, omega arith, λ e. omega arith)
 
 returns : tie.Need-returns
 unfolding readIplCauses stateOf
 returns c =
-    let none-or-ipl = c .before .before .none-or-ipl in
-    let if1 = c .before .if1 in
-    λ u. refused-outcome u _ _ _ _ _ _ 40 _ (first-here _ _ (ap not (sym (none-or-ipl .ensures)) ∙ if1 .taken)) (λ z. omega arith) (c .refuse .ensures u _)
+    let tested = c .before in
+    let first = tested .before .before .before .before in
+    let a = first .args in
+    λ u. refused-by u (a .c) (a .s) (a .main .now) (a .store .now) _ _ _ 40 _ (performed-read-ipl (a .d) (a .c) _ (a .main .now) (a .store .now) (first .pre .2)) (c .refuse .ensures)
+    (first-here _ _ (ap not (sym (tested .before .none-or-ipl .ensures)) ∙ tested .if1 .taken)) refl refl
 
-blocks-to-requires : tie.Need-blocks-to-requires
-blocks-to-requires c κs =
-    let n = c .before .least .ensures in
-    let pre = c .before .before .before .before .before .before .pre in
-    let args = c .before .before .before .before .before .before .args in
-    let w = pre .0 .count in
-    let r = pre .2 in
-    (in-store (args .size) (args .store .now) 1 (pre .1), omega (arith, n), omega (arith, n, w), omega (arith, n, r))
-
-ipl-done-requires : tie.Need-ipl-done-requires
-unfolding blockCount
-ipl-done-requires c κs =
-    let pre = c .before .before .before .before .before .before .before .before .before .pre in
-    let args = c .before .before .before .before .before .before .before .before .before .args in
-    let n = c .before .before .before .before .least .ensures in
-    (pre .1, few-blocks (args .size) (args .c) (args .store .now) (pre .0), pre .0 .count, omega (arith, n))
+read-blocks-requires : tie.Need-read-blocks-requires
+read-blocks-requires c κs =
+    let least = c .before in
+    let first = least .before .before .before .before .before in
+    let a = first .args in
+    let sound = first .pre .0 in
+    (sound .some-size, sound .small-size, in-store (a .d) (a .store .now) 1 (sound .some-block), omega (arith, least .least .ensures), omega (arith, least .least .ensures, first .pre .1 .area))
 
 returns-2 : tie.Need-returns-2
-unfolding readIplCauses blockCount stateOf
+unfolding readIplCauses stateOf
 returns-2 c =
-    let none-or-ipl = c .before .before .before .before .before .before .before .none-or-ipl in
-    let if1 = c .before .before .before .before .before .before .if1 in
-    let args = c .before .before .before .before .before .before .before .before .before .before .args in
-    let least = c .before .before .before .before .before .least in
-    let blocks-to = c .before .before .before .blocks-to in
-    λ u. accepted-outcome _ _ _ _ _ _ _ (first-later _ _ (ap not (sym (none-or-ipl .ensures)) ∙ if1 .left) ∙ first-none) (ipl-moved (args .size) u (args .c) (args .s) _ (args .main .now) (args .store .now) _ _ (least .ensures) (blocks-to .ensures) (c .ipl-done .ensures u))
+    let moved = c .before .before .before .before in
+    let least = moved .before .before in
+    let tested = least .before in
+    let first = tested .before .before .before .before in
+    let a = first .args in
+    λ u. ipl-ends u (a .d) (a .c) (a .s) (a .main .now) (a .store .now) _ _ _ _ (first .pre .2)
+    (first-later _ _ (ap not (sym (tested .before .none-or-ipl .ensures)) ∙ tested .if1 .left) ∙ first-none)
+    (c .ipl-done .ensures) (least .least .ensures) (c .before .block-count .ensures) (moved .read-blocks .ensures)
 
 pub read-ipl-spec : {M : Type 1} → statement M
 read-ipl-spec =
     tie.close
     (tie.spec
     (search needs)  -- none-or-ipl-requires
-    refuse-requires
+    (search needs)  -- refuse-requires
     returns
     (search needs)  -- least-requires
-    blocks-to-requires
-    (search needs)  -- div-ipl-done
-    ipl-done-requires
+    read-blocks-requires
+    (search needs)  -- block-count-requires
+    (search needs)  -- ipl-done-requires
     (search needs)  -- same-length
     returns-2)

@@ -1,17 +1,17 @@
 -- `whole_device` meets its contract. Assumes nothing.
 use mathlib.Core.Path.{refl}
-use Rattle.command_transfer.specs.Transferred.{wholeOf}
+use Rattle.model.specs.Commands.{wholeDevice}
 use borrow.Author.Needs.{needs}
 use Rattle.command_transfer.proofs.whole_device.Statement.{statement}
 use Rattle.command_transfer.proofs.whole_device.Tie as tie
 
 returns : tie.Need-returns
-unfolding wholeOf
+unfolding wholeDevice
 returns c = refl
 
 pub whole-device-spec : {M : Type 1} → statement M
 whole-device-spec = tie.close
     (tie.spec
-    (search needs)  -- sub-t4
-    (search needs)  -- cast-t5
+    (search needs)  -- sub-last
+    (search needs)  -- cast-last
     returns)

@@ -1,97 +1,78 @@
--- `write` meets its contract. As READ: the bytes lent are the data area's, and what `blocks_into` stores is WRITE's store (`write-moved`). Assumes nothing.
-use mathlib.Core.Path.{sym, _∙_}
-use lib.ListN.{length-take}
+-- `write` meets its contract. Both refusals are lines of its table; past them a sound state places the blocks, which are moved. Assumes nothing.
+use mathlib.Core.Path.{refl, sym, _∙_}
 use native.Mathlib.Omega.{arith}
-use borrow.Author.Tests.{not-false}
-use Rattle.slices.proofs.Laws.{part-lent}
-use Rattle.model.specs.Lent.{fetched}
-use Rattle.model.specs.Parameters.{writes}
-use Rattle.endings.proofs.Deciding.{refused-outcome, accepted-outcome}
-use Rattle.command_transfer.proofs.Transfers.{placed, no-locate, other-locate, no-cause, write-moved}
 use borrow.Author.Needs.{needs}
+use borrow.Author.Tests.{not-false}
+use Rattle.model.specs.Parameters.{writes}
+use Rattle.model.proofs.Steps.{performed-write}
+use Rattle.endings.proofs.Ends.{refused-by}
+use Rattle.command_transfer.proofs.Transfers.{placed, no-locate, other-locate, no-cause, write-ends}
 use Rattle.command_transfer.proofs.write.Statement.{statement}
 use Rattle.command_transfer.proofs.write.Tie as tie
 
-refuse-requires : tie.Need-refuse-requires
-refuse-requires c κs = (c .before .before .before .before .before .pre .0 .count, omega arith, λ e. omega arith)
-
 returns : tie.Need-returns
 returns c =
-    let args = c .before .before .before .before .before .before .args in
-    let after-locate = c .before .before .after-locate in
-    let if1 = c .before .if1 in
-    λ u. refused-outcome u _ _ _ _ _ _ 41 _ (no-locate writes u (args .s) _ (after-locate .ensures) (if1 .taken)) (λ z. omega arith) (c .refuse .ensures u _)
-
-refuse-requires-2 : tie.Need-refuse-requires-2
-refuse-requires-2 c κs = (c .before .before .before .before .before .before .before .pre .0 .count, omega arith, λ e. omega arith)
+    let tested = c .before in
+    let first = tested .before .before .before .before .before in
+    let a = first .args in
+    λ u. refused-by u (a .c) (a .s) (a .main .now) (a .store .now) _ _ _ 41 _ (performed-write (a .d) (a .c) _ (a .main .now) (a .store .now) (first .pre .2)) (c .refuse .ensures)
+    (no-locate writes u (a .s) _ (tested .before .after-locate .ensures) (tested .if1 .taken)) refl refl
 
 returns-2 : tie.Need-returns-2
 returns-2 c =
-    let args = c .before .before .before .before .before .before .before .before .args in
-    let after-locate = c .before .before .before .before .after-locate in
-    let if1 = c .before .before .before .if1 in
-    let is-write = c .before .before .is-write in
-    let if2 = c .before .if2 in
-    λ u. refused-outcome u _ _ _ _ _ _ 42 _ (other-locate writes u (args .s) _ (after-locate .ensures) _ (is-write .ensures) (if1 .left) (if2 .taken)) (λ z. omega arith) (c .refuse2 .ensures u _)
+    let tested = c .before .before .before in
+    let first = tested .before .before .before .before .before in
+    let a = first .args in
+    λ u. refused-by u (a .c) (a .s) (a .main .now) (a .store .now) _ _ _ 42 _ (performed-write (a .d) (a .c) _ (a .main .now) (a .store .now) (first .pre .2)) (c .refuse2 .ensures)
+    (other-locate writes u (a .s) _ (tested .before .after-locate .ensures) _ (c .before .before .is-write .ensures) (tested .if1 .left) (c .before .if2 .taken)) refl refl
 
 located-move-requires : tie.Need-located-move-requires
 located-move-requires c κs =
-    let pre = c .before .before .before .before .before .before .before .before .pre in
-    let after-locate = c .before .before .before .before .after-locate in
-    let if1 = c .before .before .before .if1 in
-    (pre .0, pre .1, sym (after-locate .ensures) ∙ not-false _ (if1 .left))
+    let tested = c .before .before .before in
+    (tested .before .before .before .before .before .pre .0, sym (tested .before .after-locate .ensures) ∙ not-false _ (tested .if1 .left))
 
-blocks-into-requires : tie.Need-blocks-into-requires
-blocks-into-requires c κs =
-    let pre = c .before .before .before .before .before .before .before .before .before .before .before .before .pre in
-    let after-locate = c .before .before .before .before .before .before .before .before .after-locate in
-    let if1 = c .before .before .before .before .before .before .before .if1 in
-    let located-move = c .before .before .before .located-move in
-    let k = placed _ _ _ _ (pre .0) (pre .1) (sym (after-locate .ensures) ∙ not-false _ (if1 .left)) in
-    let n = located-move .ensures .2 in
-    let w = pre .0 .count in
-    (pre .0 .some, k .some, rw (located-move .ensures .0) (k .room), simp length-take (omega (arith, n, w)))
+store-blocks-requires : tie.Need-store-blocks-requires
+store-blocks-requires c κs =
+    let moved = c .before in
+    let tested = moved .before .before .before .before in
+    let first = tested .before .before .before .before .before in
+    let a = first .args in
+    let k = placed (a .d) (a .s) (a .store .now) (first .pre .0) (sym (tested .before .after-locate .ensures) ∙ not-false _ (tested .if1 .left)) in
+    let m = moved .located-move .ensures in
+    (first .pre .0 .some-size, first .pre .0 .small-size, rw m (k .room), rw m (omega arith), rw m (omega (arith, first .pre .1 .area)))
 
 write-done-requires : tie.Need-write-done-requires
 write-done-requires c κs =
-    let pre = c .before .before .before .before .before .before .before .before .before .before .before .before .before .before .before .pre in
-    let after-locate = c .before .before .before .before .before .before .before .before .before .before .before .after-locate in
-    let if1 = c .before .before .before .before .before .before .before .before .before .before .if1 in
-    let k = placed _ _ _ _ (pre .0) (pre .1) (sym (after-locate .ensures) ∙ not-false _ (if1 .left)) in
-    let z = pre .0 in
-    let n = c .before .before .before .before .before .before .located-move .ensures .2 in
-    (z .some, z .small, z .count, omega (arith, n), k .few)
+    let moved = c .before .before .before .before in
+    let tested = moved .before .before .before .before in
+    let first = tested .before .before .before .before .before in
+    let k = placed (first .args .d) (first .args .s) (first .args .store .now) (first .pre .0) (sym (tested .before .after-locate .ensures) ∙ not-false _ (tested .if1 .left)) in
+    (first .pre .0 .some-size, first .pre .0 .small-size, first .pre .1 .count, rw (moved .located-move .ensures) (omega arith), omega (arith, k .few))
 
 returns-3 : tie.Need-returns-3
-unfolding fetched
 returns-3 c =
-    let args = c .before .before .before .before .before .before .before .before .before .before .before .before .before .before .before .before .args in
-    let after-locate = c .before .before .before .before .before .before .before .before .before .before .before .before .after-locate in
-    let if1 = c .before .before .before .before .before .before .before .before .before .before .before .if1 in
-    let is-write = c .before .before .before .before .before .before .before .before .before .before .is-write in
-    let if2 = c .before .before .before .before .before .before .before .before .before .if2 in
-    let located-move = c .before .before .before .before .before .before .before .located-move in
-    let move = located-move .ensures in
-    let blocks-into = c .before .before .before .blocks-into in
-    let bytes = part-lent (args .main .now) (args .c .address) (located-move .result .n) in
-    λ u. accepted-outcome _ _ _ _ _ _ _ (no-cause writes u (args .s) _ (after-locate .ensures) _ (is-write .ensures) (if1 .left) (if2 .left)) (write-moved (args .size) u (args .c) (args .s) _ (args .main .now) (args .store .now) _ _ _ _ _ (move .0) (move .1) (move .2) bytes (blocks-into .ensures) (c .write-done .ensures u))
+    let stored = c .before .before .before in
+    let moved = stored .before .before in
+    let tried = moved .before .before in
+    let tested = tried .before .before in
+    let first = tested .before .before .before .before .before in
+    let a = first .args in
+    λ u. write-ends u (a .d) (a .c) (a .s) (a .main .now) (a .store .now) _ _ _ (first .pre .2)
+    (no-cause writes u (a .s) _ (tested .before .after-locate .ensures) _ (tried .before .is-write .ensures) (tested .if1 .left) (tried .if2 .left))
+    (c .write-done .ensures) (moved .located-move .ensures) (stored .store-blocks .ensures)
 
 pub write-spec : {M : Type 1} → statement M
 write-spec =
     tie.close
     (tie.spec
     (search needs)  -- after-locate-requires
-    refuse-requires
+    (search needs)  -- refuse-requires
     returns
     (search needs)  -- is-write-requires
-    refuse-requires-2
+    (search needs)  -- refuse-requires-2
     returns-2
     located-move-requires
-    (search needs)  -- add-end
-    (search needs)  -- sub-blocks-into
-    (search needs)  -- part-blocks-into-start
-    (search needs)  -- part-blocks-into-end
-    blocks-into-requires
+    store-blocks-requires
     write-done-requires
     (search needs)  -- same-length
     returns-3)

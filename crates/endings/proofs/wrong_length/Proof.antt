@@ -8,17 +8,17 @@ use Rattle.endings.proofs.wrong_length.Tie as tie
 
 returns : tie.Need-returns
 unfolding wrongLength flag
-returns c = λ s moved blocks. simp (eq-eqb _ _ (c .if1 .taken))
+returns c = simp (eq-eqb _ _ (c .if1 .taken))
 
 returns-2 : tie.Need-returns-2
 unfolding wrongLength flag
-returns-2 c = λ s moved blocks. simp (ne-eqb _ _ (c .before .before .if1 .left), ← (c .before .suppressed .ensures), c .if2 .taken)
+returns-2 c = simp (ne-eqb _ _ (c .before .before .if1 .left), ← (c .before .suppressed .ensures), c .if2 .taken)
 
 returns-3 : tie.Need-returns-3
 unfolding wrongLength flag
 returns-3 c =
     let asked = c .before .before in
-    λ s moved blocks. simp (ne-eqb _ _ (asked .before .if1 .left), ← (asked .suppressed .ensures), c .before .if2 .left)
+    simp (ne-eqb _ _ (asked .before .if1 .left), ← (asked .suppressed .ensures), c .before .if2 .left)
 
 pub wrong-length-spec : {M : Type 1} → statement M
 wrong-length-spec = tie.close

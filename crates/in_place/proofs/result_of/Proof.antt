@@ -1,4 +1,4 @@
--- `lent::result_of` meets its contract. Assumes nothing.
+-- `in_place::result_of` meets its contract. Assumes nothing.
 use native.Mathlib.Omega.{arith}
 use Rattle.model.specs.Host.{resultOf}
 use borrow.Author.Needs.{needs}

@@ -1,4 +1,4 @@
--- `lent::run` meets its contract: a walk of its MIR, by hand. The record's borrow is opened, the record is copied out and passed with the slices to `run_core`; its result's record is stored, and the borrow is closed at that.
+-- `in_place::run` meets its contract: a walk of its MIR, by hand. The record's borrow is opened, the record is copied out and passed with the slices to `run_core`; its result's record is stored, and the borrow is closed at that.
 -- `chain` is copied, so that one copy is there at exit. Each `&mut` slice is passed on at its own lifetime, share and name, and given up for good.
 -- Assumes nothing.
 use mathlib.Core.Path.{_≡_, refl, ap}

@@ -1,4 +1,4 @@
--- `lent::run_core` meets its contract. The call's equation, with cause and commands reached in one number; they fit, since at most 32 commands are reached. Assumes nothing.
+-- `in_place::run_core` meets its contract. The call's equation, with cause and commands reached in one number; they fit, since at most 32 commands are reached. Assumes nothing.
 use Rattle.in_place.proofs.Reached.{reached-few, gives-outcome}
 use borrow.Author.Needs.{needs}
 use Rattle.in_place.proofs.run_core.Statement.{statement}

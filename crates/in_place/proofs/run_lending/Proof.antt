@@ -1,4 +1,4 @@
--- `lent::run_lending` meets its contract: a walk of its MIR, by hand. A local holds the record and is lent to `run` for a lifetime that is made for the call; it is back at the record that `run` left.
+-- `in_place::run_lending` meets its contract: a walk of its MIR, by hand. A local holds the record and is lent to `run` for a lifetime that is made for the call; it is back at the record that `run` left.
 -- `chain` is copied, so that one copy is there at exit. Each `&mut` slice is passed on at its own lifetime, share and name, and given up for good.
 -- Assumes nothing.
 use mathlib.Core.Path.{_≡_, refl, ap}

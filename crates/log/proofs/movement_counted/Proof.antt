@@ -1,14 +1,10 @@
--- `movement_counted` meets its contract: the field that changes is the sum that stops.
--- Assumes nothing.
+-- `movement_counted` meets its contract: the field that changes is the sum that stops. Assumes nothing.
 use borrow.Author.Needs.{needs}
-use Rattle.log.specs.Counts.{counted}
-use Rattle.model.specs.Log.{withCounts, movementCounted}
 use Rattle.log.proofs.movement_counted.Statement.{statement}
 use Rattle.log.proofs.movement_counted.Tie as tie
 
 returns : tie.Need-returns
-unfolding counted movementCounted withCounts
-returns c = λ u. rw (c .added2 .ensures)
+returns c = rw (c .added2 .ensures)
 
 pub movement-counted-spec : {M : Type 1} → statement M
 movement-counted-spec = tie.close

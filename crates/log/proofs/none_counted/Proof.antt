@@ -1,14 +1,14 @@
 -- `none_counted` meets its contract: three counts of zeros. Assumes nothing.
 use mathlib.Core.Path.{refl}
 use Rattle.slices.specs.Parts.{zeros}
-use Rattle.model.specs.Log.{withCounts, logReset}
-use Rattle.log.specs.Counts.{counted}
 use Rattle.log.proofs.none_counted.Statement.{statement}
 use Rattle.log.proofs.none_counted.Tie as tie
 
 returns : tie.Need-returns
-unfolding counted withCounts logReset zeros
-returns c = λ u. refl
+unfolding zeros
+returns c = refl
 
 pub none-counted-spec : {M : Type 1} → statement M
-none-counted-spec = tie.close (tie.spec returns)
+none-counted-spec = tie.close
+    (tie.spec
+    returns)

@@ -1,14 +1,10 @@
--- `read_counted` meets its contract: the field that changes is the sum that stops.
--- Assumes nothing.
+-- `read_counted` meets its contract: the field that changes is the sum that stops. Assumes nothing.
 use borrow.Author.Needs.{needs}
-use Rattle.log.specs.Counts.{counted}
-use Rattle.model.specs.Log.{withCounts, readCounted}
 use Rattle.log.proofs.read_counted.Statement.{statement}
 use Rattle.log.proofs.read_counted.Tie as tie
 
 returns : tie.Need-returns
-unfolding counted readCounted withCounts
-returns c = λ u. rw (c .added3 .ensures)
+returns c = rw (c .added3 .ensures)
 
 pub read-counted-spec : {M : Type 1} → statement M
 read-counted-spec = tie.close

@@ -1,14 +1,10 @@
--- `written_counted` meets its contract: the field that changes is the sum that stops.
--- Assumes nothing.
+-- `written_counted` meets its contract: the field that changes is the sum that stops. Assumes nothing.
 use borrow.Author.Needs.{needs}
-use Rattle.log.specs.Counts.{counted}
-use Rattle.model.specs.Log.{withCounts, writtenCounted}
 use Rattle.log.proofs.written_counted.Statement.{statement}
 use Rattle.log.proofs.written_counted.Tie as tie
 
 returns : tie.Need-returns
-unfolding counted writtenCounted withCounts
-returns c = λ u. rw (c .added3 .ensures)
+returns c = rw (c .added3 .ensures)
 
 pub written-counted-spec : {M : Type 1} → statement M
 written-counted-spec = tie.close

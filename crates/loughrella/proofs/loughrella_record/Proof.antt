@@ -1,4 +1,4 @@
--- `host::loughrella_record` meets its contract. Assumes nothing.
+-- `loughrella::loughrella_record` meets its contract. Assumes nothing.
 use mathlib.Core.Path.{sym}
 use Rattle.model.specs.Host.{resultOf}
 use Rattle.model.proofs.Hosts.{set-up-record, set-up-none}

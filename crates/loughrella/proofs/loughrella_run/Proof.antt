@@ -12,20 +12,20 @@ use Rattle.loughrella.proofs.loughrella_run.Tie as tie
 returns : tie.Need-returns
 returns c =
     let args = c .before .before .before .before .before .before .before .before .before .before .args in
-    refused-hosted (args .chain .now) (args .storage .now) (args .store .now) (args .unit .now) (args .answers .now) _ _ (c .before .call-cause .ensures) (c .if1 .taken) refl
+    refused-hosted (args .chain .now) (args .storage .now) (args .store .now) (args .unit .now) (args .answers .now) _ _ (c .before .cause-of .ensures) (c .if1 .taken) refl
 
 returns-2 : tie.Need-returns-2
 returns-2 c =
     let args = c .before .before .before .before .before .before .before .before .before .before .before .args in
-    six-hosted (args .chain .now) (args .storage .now) (args .store .now) (args .unit .now) (args .answers .now) (sym (c .before .before .call-cause .ensures) ∙ c .before .if1 .left) (c .if2 .taken)
+    six-hosted (args .chain .now) (args .storage .now) (args .store .now) (args .unit .now) (args .answers .now) (sym (c .before .before .cause-of .ensures) ∙ c .before .if1 .left) (c .if2 .taken)
 
 run-allowed-requires : tie.Need-run-allowed-requires
-run-allowed-requires c κs = sym (c .before .before .before .before .before .before .before .call-cause .ensures) ∙ c .before .before .before .before .before .before .if1 .left
+run-allowed-requires c κs = sym (c .before .before .before .before .before .before .before .cause-of .ensures) ∙ c .before .before .before .before .before .before .if1 .left
 
 cast-result-2 : tie.Need-cast-result-2
 cast-result-2 c =
     let args = c .before .before .before .before .before .before .before .before .before .before .before .before .before .before .before .before .before .before .before .before .before .before .before .before .before .before .before .before .before .args in
-    let no-cause = sym (c .before .before .before .before .before .before .before .before .before .before .before .before .before .before .before .before .before .before .before .before .call-cause .ensures) ∙ c .before .before .before .before .before .before .before .before .before .before .before .before .before .before .before .before .before .before .before .if1 .left in
+    let no-cause = sym (c .before .before .before .before .before .before .before .before .before .before .before .before .before .before .before .before .before .before .before .before .cause-of .ensures) ∙ c .before .before .before .before .before .before .before .before .before .before .before .before .before .before .before .before .before .before .before .if1 .left in
     omega (arith, few-hosted (args .chain .now) (args .storage .now) (args .store .now) (args .unit .now) (args .answers .now) _ _ no-cause (c .before .before .before .before .before .before .before .before .before .before .before .before .run-allowed .ensures))
 
 returns-3 : tie.Need-returns-3
@@ -41,7 +41,7 @@ pub loughrella-run-spec : {M : Type 1} → statement M
 loughrella-run-spec =
     tie.close
     (tie.spec
-    (search needs)  -- call-cause-requires
+    (search needs)  -- cause-of-requires
     (search needs)  -- cast-result
     (search needs)  -- mul-result
     (search needs)  -- same-length

@@ -1,4 +1,4 @@
--- `moves::clear` meets its contract. The invariant: zeros stand in the first i places, the rest is as it was. The measure: the places left.
+-- `slices::clear` meets its contract. The invariant: zeros stand in the first i places, the rest is as it was. The measure: the places left.
 -- Assumes nothing.
 use borrow.Author.Needs.{needs}
 use mathlib.Core.Path.{_≡_, sym, _∙_}

@@ -1,4 +1,4 @@
--- `moves::copy` meets its contract: what is held begins with the bytes that were put there.
+-- `slices::copy` meets its contract: what is held begins with the bytes that were put there.
 -- Assumes nothing.
 use borrow.Author.Needs.{needs}
 use mathlib.Core.Path.{_≡_, ap, _∙_}

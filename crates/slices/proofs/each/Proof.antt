@@ -1,4 +1,4 @@
--- `moves::each` meets its contract: the kit's copy takes all of the slice it is lent, the first n bytes of `from`.
+-- `slices::each` meets its contract: the kit's copy takes all of the slice it is lent, the first n bytes of `from`.
 -- Assumes nothing.
 use borrow.Author.Needs.{needs}
 use mathlib.Core.Path.{sym, _∙_}

@@ -1,4 +1,4 @@
--- `moves::fill` meets its contract: what fits is copied to the front and the rest is cleared, as `pad` says.
+-- `slices::fill` meets its contract: what fits is copied to the front and the rest is cleared, as `pad` says.
 -- Assumes nothing.
 use borrow.Author.Needs.{needs}
 use Rattle.slices.proofs.Laws.{pad-cleared}

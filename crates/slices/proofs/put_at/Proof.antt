@@ -1,4 +1,4 @@
--- `moves::put_at` meets its contract: bytes put at the front of the part from `at` on are put at `at`.
+-- `slices::put_at` meets its contract: bytes put at the front of the part from `at` on are put at `at`.
 -- Assumes nothing.
 use borrow.Author.Needs.{needs}
 use Prim.Native.Nat.{_-_}

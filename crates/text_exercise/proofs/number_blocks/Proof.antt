@@ -13,7 +13,7 @@ use Rattle.text_exercise.proofs.number_blocks.Statement.{statement}
 use Rattle.text_exercise.proofs.number_blocks.Tie as tie
 
 abbrev Inv-loop : tie.InvT-loop
-Inv-loop store₀ blocks i₀ i-end store i = (i ≤ i-end) × (i-end ≡ length store₀) × (length store ≡ length store₀) × (length store₀ ≡ blocks * classA) × (blocks ≤ mostBlocks) × (take i store ≡ take i (device blocks))
+Inv-loop store₀ blocks i₀ i-end store i = (i ≤ i-end) × (i-end ≡ length store₀) × (length store ≡ length store₀) × (length store₀ ≡ blocks * classA .block) × (blocks ≤ mostBlocks) × (take i store ≡ take i (device blocks))
 
 abbrev μ-loop : tie.MeasureT-loop
 μ-loop store₀ blocks i₀ i-end store i = i-end - i

@@ -16,14 +16,14 @@ number-blocks-requires c κs = (length-take-le _ _ (omega arith), c .before .bef
 slice-aggregate-run : tie.Need-slice-aggregate-run
 slice-aggregate-run c =
     let a = c .before .before .before .before .before .before .before .before .before .before .before .before .before .before .args in
-    let kept = c .before .before .before .before .before .before .number-blocks .kept .0 ∙ length-take-le (a .s .blocks * classA) (a .store .now) (omega arith) in
+    let kept = c .before .before .before .before .before .before .number-blocks .kept .0 ∙ length-take-le (a .s .blocks * classA .block) (a .store .now) (omega arith) in
     rw (take-at _ _ _ kept) (sym kept)
 
 returns : tie.Need-returns
 returns c =
     let a = c .before .before .before .before .before .before .before .before .before .before .before .before .before .before .before .before .before .before .before .before .before .before .before .before .args in
-    let kept = c .before .before .before .before .before .before .before .before .before .before .before .before .before .before .before .before .number-blocks .kept .0 ∙ length-take-le (a .s .blocks * classA) (a .store .now) (omega (arith, c .before .before .before .before .before .before .before .before .before .before .before .before .before .before .before .before .before .before .before .before .before .before .before .before .pre)) in
-    rw (performed-is (a .s) (a .chain .now) (a .main .now) _ _ (take-at _ (drop (a .s .blocks * classA) (a .store .now)) _ kept ∙ c .before .before .before .before .before .before .before .before .before .before .before .before .before .before .before .before .number-blocks .ensures) (c .before .before .before .before .before .before .before .before .before .before .before .before .before .new-record .ensures)) (c .before .before .before .before .before .before .before .before .run .ensures)
+    let kept = c .before .before .before .before .before .before .before .before .before .before .before .before .before .before .before .before .number-blocks .kept .0 ∙ length-take-le (a .s .blocks * classA .block) (a .store .now) (omega (arith, c .before .before .before .before .before .before .before .before .before .before .before .before .before .before .before .before .before .before .before .before .before .before .before .before .pre)) in
+    rw (performed-is (a .s) (a .chain .now) (a .main .now) _ _ (take-at _ (drop (a .s .blocks * classA .block) (a .store .now)) _ kept ∙ c .before .before .before .before .before .before .before .before .before .before .before .before .before .before .before .before .number-blocks .ensures) (c .before .before .before .before .before .before .before .before .before .before .before .before .before .new-record .ensures)) (c .before .before .before .before .before .before .before .before .run .ensures)
 
 pub run-on-device-spec : {M : Type 1} → statement M
 run-on-device-spec =

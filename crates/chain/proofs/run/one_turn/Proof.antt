@@ -1,44 +1,35 @@
--- `run::one_turn` meets its contract. The CCW, the step and the answer are those of `next` (`turned`), and "go on" is `more` (`turned-go`). Assumes nothing.
+-- `run::one_turn` meets its contract: the CCW, the step and the answer are those of `next`, and "go on" is `more`. Assumes nothing.
 use mathlib.Core.Path.{sym, _∙_}
-use mathlib.Core.Bool.{false≢true}
-use borrow.Author.Needs.{needs}
 use borrow.Author.Tests.{eqb-true}
-use Rattle.model.specs.Lent.{flag}
 use Rattle.numbers.proofs.Joined.{both-true}
 use Rattle.unit_state.specs.Standing.{stateOf}
-use Rattle.endings.proofs.Reports.{ended-left}
-use Rattle.chain.proofs.Runs.{turned, turned-go, presented, goes-on, stops}
+use Rattle.chain.proofs.Runs.{turned, turned-go, on-left}
+use borrow.Author.Needs.{needs}
 use Rattle.chain.proofs.run.one_turn.Statement.{statement}
 use Rattle.chain.proofs.run.one_turn.Tie as tie
 
 step-requires : tie.Need-step-requires
-step-requires c κs = search needs
+step-requires c κs =
+    let ccw = c .before .before in
+    let e = ccw .ccw-at .ensures in
+    (ccw .before .before .before .before .before .pre .3, e .1, e .2)
 
 returns : tie.Need-returns
-unfolding flag
 returns c =
-    let args = c .before .before .before .before .before .before .before .before .before .before .before .before .before .before .before .before .before .before .before .args in
-    let ccw-at = c .before .before .before .before .before .before .before .before .before .before .before .before .before .before .ccw-at in
-    let step = c .before .before .before .before .before .before .before .before .before .before .before .step in
-    let present = c .before .before .before .before .present in
-    let s = stateOf (args .u) (args .s) in
-    let d = step .result in
-    let said = sym (c .before .if1 .taken) ∙ present .ensures .1 in
-    let ended = eqb-true _ _ (both-true _ _ (sym said) .0) in
-    let answer = presented (args .u) (ccw-at .result) d _ (args .answers .now) _ (present .ensures .0) in
-    ((λ k. turned (args .size) (args .chain .now) (args .i) (ccw-at .result) s (args .main .now) (args .store .now) (args .answers .now) _ _ (args .u) d k (ccw-at .ensures .0) (step .ensures) _ answer), ((λ k. turned-go (args .size) (args .chain .now) (args .i) (ccw-at .result) s (args .main .now) (args .store .now) (args .answers .now) _ _ (args .u) d k (ccw-at .ensures .0) (step .ensures) _ (goes-on (args .u) (ccw-at .result) d said _ (c .chained .ensures))), λ e. ended-left (args .u) (d .left) ended))
-
-returns-2 : tie.Need-returns-2
-returns-2 c =
-    let args = c .before .before .before .before .before .before .before .before .before .before .before .before .before .before .before .before .before .before .args in
-    let ccw-at = c .before .before .before .before .before .before .before .before .before .before .before .before .before .ccw-at in
-    let step = c .before .before .before .before .before .before .before .before .before .before .step in
-    let present = c .before .before .before .present in
-    let s = stateOf (args .u) (args .s) in
-    let d = step .result in
-    let said = sym (c .if1 .left) ∙ present .ensures .1 in
-    let answer = presented (args .u) (ccw-at .result) d _ (args .answers .now) _ (present .ensures .0) in
-    ((λ k. turned (args .size) (args .chain .now) (args .i) (ccw-at .result) s (args .main .now) (args .store .now) (args .answers .now) _ _ (args .u) d k (ccw-at .ensures .0) (step .ensures) _ answer), ((λ k. turned-go (args .size) (args .chain .now) (args .i) (ccw-at .result) s (args .main .now) (args .store .now) (args .answers .now) _ _ (args .u) d k (ccw-at .ensures .0) (step .ensures) _ (stops (args .u) (ccw-at .result) d said)), λ e. absurd (false≢true e)))
+    let put = c .before .before .before in
+    let step = put .before .before .before .before .before .before .before in
+    let ccw = step .before .before .before in
+    let first = ccw .before .before .before .before .before in
+    let a = first .args in
+    let s = stateOf (a .u) (a .s) in
+    let e = ccw .ccw-at .ensures in
+    let d = step .step .result in (
+      λ k. turned (a .d) (a .chain .now) (a .i) _ s (a .main .now) (a .store .now) (a .answers .now) _ _ (a .u) (a .s) d k (e .0) (step .step .ensures) _ (put .put-answer .ensures) (e .1) (first .pre .3 .some-size),
+      (
+        λ k. turned-go (a .d) (a .chain .now) (a .i) _ s (a .main .now) (a .store .now) (a .answers .now) _ _ (a .u) (a .s) d k (e .0) (step .step .ensures) _ (c .goes-on .ensures),
+        λ g. on-left (a .u) (d .left) (eqb-true _ _ (both-true _ _ (both-true _ _ (sym (c .goes-on .ensures) ∙ g) .0) .0)),
+      ),
+    )
 
 pub one-turn-spec : {M : Type 1} → statement M
 one-turn-spec =
@@ -46,14 +37,9 @@ one-turn-spec =
     (tie.spec
     (search needs)  -- ccw-at-requires
     step-requires
-    (search needs)  -- mul-present
-    (search needs)  -- present-requires
-    (search needs)  -- chained-requires
+    (search needs)  -- put-answer-requires
+    (search needs)  -- goes-on-requires
     (search needs)  -- same-length
     (search needs)  -- same-length-2
     (search needs)  -- same-length-3
-    returns
-    (search needs)  -- same-length-4
-    (search needs)  -- same-length-5
-    (search needs)  -- same-length-6
-    returns-2)
+    returns)

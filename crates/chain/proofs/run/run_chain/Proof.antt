@@ -1,41 +1,45 @@
--- `run::run_chain` meets its contract. Invariant `Underway`: lengths kept, the state safe, and what is still to run from here gives the whole run. Measure: the commands left. Assumes nothing.
-use mathlib.Core.Path.{_≡_, refl, sym, ap, _∙_}
-use mathlib.Core.Bool.{true}
+-- `run::run_chain` meets its contract. Invariant `Underway`: lengths kept, the state safe, and what is still to run from here gives the whole run; the commands left fall. Assumes nothing.
 use Prim.Native.Nat.{_-_}
+use mathlib.Core.Path.{_≡_, refl, sym, _∙_}
+use mathlib.Core.Bool.{true}
 use native.Mathlib.Omega.{arith}
 use borrow.Author.Tests.{not-true, not-false}
-use Rattle.model.specs.State.{State}
-use Rattle.model.specs.Chain.{system}
-use Rattle.unit_state.specs.Standing.{stateOf}
-use Rattle.unit_state.proofs.Units.{safe-secure}
-use Rattle.endings.proofs.Reports.{ended-left}
-use Rattle.chain.proofs.Runs.{Underway, underway-start, underway-next, underway-stop, underway-done, runnable-same}
+use Rattle.unit_state.specs.Standing.{stateOf, Sound}
+use Rattle.chain.proofs.Runs.{Underway, underway-start, underway-next, underway-stop, underway-done, sound-same}
+use borrow.Author.Needs.{needs}
 use Rattle.chain.proofs.run.run_chain.Statement.{statement}
 use Rattle.chain.proofs.run.run_chain.Tie as tie
 
 abbrev Inv-loop : tie.InvT-loop
-Inv-loop size chain u main₀ store₀ answers₀ n state₀ i₀ main store answers state i = Underway size chain main₀ store₀ answers₀ n (stateOf u state₀) main store answers (stateOf u state) i
+Inv-loop d chain u main₀ store₀ answers₀ n state₀ i₀ main store answers state i = Underway d chain main₀ store₀ answers₀ n (stateOf u state₀) main store answers (stateOf u state) i
 
 abbrev μ-loop : tie.MeasureT-loop
-μ-loop size chain u main₀ store₀ answers₀ n state₀ i₀ main store answers state i = n - i
+μ-loop d chain u main₀ store₀ answers₀ n state₀ i₀ main store answers state i = n - i
 
 loop-holds : tie.Need-loop-holds Inv-loop μ-loop
 loop-holds c =
-    let start = c .before .before .before .before in
-    underway-start (start .args .size) _ _ _ _ _ _ refl (start .pre .3 .safe (start .args .u))
+    let first = c .before .before .before .before in
+    underway-start (first .args .d) _ _ _ _ _ _ refl (first .pre .2 .safe (first .args .u))
+
+-- the state of a turn is sound
+sound : (c : tie.In-loop Inv-loop μ-loop) → let a = c .before .before .before .before .before .before .args in Sound (a .d) (c .before .loop .state) (c .before .loop .store)
+sound c =
+    let first = c .before .before .before .before .before .before in
+    let l = c .before .loop in
+    sound-same (first .args .d) (first .args .u) (first .args .s) (l .state) (first .args .store .now) (l .store) (l .inv .store-length) (first .pre .2) (l .inv .safe)
 
 one-turn-requires : tie.Need-one-turn-requires Inv-loop μ-loop
 one-turn-requires c κs =
-    let loop = c .before .before .before .before .loop in
-    let start = c .before .before .before .before .before .before .before .before .before in
-    let under = loop .inv in
-    (omega (arith, under .count), start .pre .1, omega (arith, under .count, under .answers-length, start .pre .0), runnable-same _ (start .args .store .now) _ (under .store-length) (start .pre .2), safe-secure (start .args .u) (loop .state) _ (under .safe))
+    let turn = c .before .before .before in
+    let first = turn .before .before .before .before .before .before in
+    let under = turn .before .loop .inv in
+    (omega (arith, under .count, turn .loop-test .taken), first .pre .1, omega (arith, under .count, under .answers-length, first .pre .0, turn .loop-test .taken), sound turn)
 
 add-i : tie.Need-add-i Inv-loop μ-loop
 add-i c =
-    let loop = c .before .before .before .before .before .before .before .before .before .before .before .before .before .loop in
-    let start = c .before .before .before .before .before .before .before .before .before .before .before .before .before .before .before .before .before .before in
-    omega (arith, loop .inv .count, start .pre .1, c .before .before .before .before .before .before .before .before .before .before .before .before .loop-test .taken)
+    let turn = c .before .before .before .before .before .before .before .before .before .before .before .before in
+    let first = turn .before .before .before .before .before .before in
+    omega (arith, turn .before .loop .inv .count, first .pre .1, turn .loop-test .taken)
 
 same-length : tie.Need-same-length Inv-loop μ-loop
 same-length c = omega arith
@@ -48,25 +52,27 @@ same-length-3 c = omega arith
 
 returns : tie.Need-returns Inv-loop μ-loop
 returns c =
-    let args = c .before .before .before .before .before .before .before .before .before .before .before .before .before .before .before .before .before .before .before .before .args in
-    let loop = c .before .before .before .before .before .before .before .before .before .before .before .before .before .before .before .loop in
-    let loop-test = c .before .before .before .before .before .before .before .before .before .before .before .before .before .before .loop-test in
-    let turn = c .before .before .before .before .before .before .before .before .before .before .one-turn in
-    underway-stop (args .size) (args .chain .now) (args .main .now) (args .store .now) (args .answers .now) _ (stateOf (args .u) (args .s)) (loop .main) (loop .store) (loop .answers) (stateOf (args .u) (loop .state)) (loop .i) (loop .inv) (loop-test .taken) _ (turn .ensures .0 (loop .i)) (sym (turn .ensures .1 .0 (loop .i)) ∙ not-true _ (c .if1 .taken))
+    let done = c .before .before .before .before .before .before .before .before .before .before in
+    let turn = done .before .before .before .before in
+    let a = turn .before .before .before .before .before .before .args in
+    let l = turn .before .loop in
+    underway-stop (a .d) (a .chain .now) (a .main .now) (a .store .now) (a .answers .now) _ (stateOf (a .u) (a .s)) (l .main) (l .store) (l .answers) (stateOf (a .u) (l .state)) (l .i) (l .inv) (turn .loop-test .taken) _
+    (done .one-turn .ensures .0 (l .i)) (sym (done .one-turn .ensures .1 .0 (l .i)) ∙ not-true _ (c .if1 .taken))
 
 loop-less : tie.Need-loop-less Inv-loop μ-loop
 loop-less c = omega arith
 
 loop-again : tie.Need-loop-again Inv-loop μ-loop
 loop-again c =
-    let args = c .before .before .before .before .before .before .before .before .before .before .before .before .before .before .before .before .before .before .before .before .args in
-    let pre = c .before .before .before .before .before .before .before .before .before .before .before .before .before .before .before .before .before .before .before .before .pre in
-    let loop = c .before .before .before .before .before .before .before .before .before .before .before .before .before .before .before .loop in
-    let loop-test = c .before .before .before .before .before .before .before .before .before .before .before .before .before .before .loop-test in
-    let turn = c .before .before .before .before .before .before .before .before .before .before .one-turn in
-    let go : turn .result .go ≡ true = not-false _ (c .if1 .left) in
-    let some = runnable-same _ (args .store .now) _ (loop .inv .store-length) (pre .2) .some-block in
-    underway-next (args .size) (args .chain .now) (args .main .now) (args .store .now) (args .answers .now) _ (stateOf (args .u) (args .s)) (loop .main) (loop .store) (loop .answers) (stateOf (args .u) (loop .state)) (loop .i) (loop .inv) (loop-test .taken) _ _ _ _ some (omega (arith, loop .inv .count, pre .0)) (rw (turn .ensures .1 .1 go) at (turn .ensures .0 (loop .i))) (sym (turn .ensures .1 .0 (loop .i)) ∙ go)
+    let done = c .before .before .before .before .before .before .before .before .before .before in
+    let turn = done .before .before .before .before in
+    let first = turn .before .before .before .before .before .before in
+    let a = first .args in
+    let l = turn .before .loop in
+    let go : done .one-turn .result .go ≡ true = not-false _ (c .if1 .left) in
+    underway-next (a .d) (a .chain .now) (a .main .now) (a .store .now) (a .answers .now) _ (stateOf (a .u) (a .s)) (l .main) (l .store) (l .answers) (stateOf (a .u) (l .state)) (l .i) (l .inv) (turn .loop-test .taken) _ _ _ _
+    (sound turn .some-block) (omega (arith, l .inv .count, first .pre .0))
+    (rw (done .one-turn .ensures .1 .1 go) at (done .one-turn .ensures .0 (l .i))) (sym (done .one-turn .ensures .1 .0 (l .i)) ∙ go)
 
 same-length-4 : tie.Need-same-length-4 Inv-loop μ-loop
 same-length-4 c = omega arith
@@ -79,9 +85,9 @@ same-length-6 c = omega arith
 
 returns-2 : tie.Need-returns-2 Inv-loop μ-loop
 returns-2 c =
-    let args = c .before .before .before .before .before .before .args in
-    let loop = c .before .loop in
-    ap (λ (s : State). system s (loop .main) (loop .store) (loop .answers) (loop .i)) (ended-left (args .u) _ refl) ∙ underway-done (args .size) (args .chain .now) (args .main .now) (args .store .now) (args .answers .now) _ (stateOf (args .u) (args .s)) (loop .main) (loop .store) (loop .answers) (stateOf (args .u) (loop .state)) (loop .i) (loop .inv) (omega arith)
+    let a = c .before .before .before .before .before .before .args in
+    let l = c .before .loop in
+    underway-done (a .d) (a .chain .now) (a .main .now) (a .store .now) (a .answers .now) _ (stateOf (a .u) (a .s)) (l .main) (l .store) (l .answers) (stateOf (a .u) (l .state)) (l .i) (l .inv) (c .loop-test .left)
 
 pub run-chain-spec : {M : Type 1} → statement M
 run-chain-spec =

@@ -1,0 +1,76 @@
+-- One block more, of a READ and of a WRITE. No contract cites this file.
+--     Turn         where block i of n bytes stands: k bytes of it, after the first `from`
+--     next-turn    so stands the next
+--     turn-within, turn-room   it is one of the blocks, and lies in the store
+--     read-turn    its bytes are delivered after those of the blocks before it
+--     filled       its bytes, and then zeros
+--     store-turn   it is stored after the blocks before it
+use Prim.Native.Nat.{ℕ, _+_, _-_, _*_, _≤_, _<_, min}
+use mathlib.Core.Path.{_≡_, sym, ap, _∙_}
+use mathlib.Core.List.{List, _++_}
+use lib.ListN.{length, take, drop}
+use lib.Seq.{length-take-le, take-all}
+use native.Mathlib.Nat.{mul-le-mul-left, mul-le-mul-right}
+use native.Mathlib.Decide.{decLe}
+use native.Mathlib.Omega.{arith}
+use borrow.Rule.Slice.PartMut.{midOf, putMid}
+use Rattle.slices.specs.Parts.{zeros, part, put, pad}
+use Rattle.slices.proofs.Laws.{length-part, pad-cleared}
+use Rattle.model.specs.declared.ccw.Ccw.{Ccw}
+use Rattle.model.specs.declared.device.Device.{Device}
+use Rattle.model.specs.Lent.{fetched, delivered, blockStart, blockAt, blocksFrom, blocksInto}
+use Rattle.model.proofs.Blocks.{blocks-from-part, take-blocks-more, blocks-into-last}
+use Rattle.storage.specs.Area.{fetchedFrom, deliveredFrom}
+use Rattle.storage.proofs.Laws.{delivered-more, fetched-block}
+
+pub record Turn (size n i from k : ℕ) : Type 0 where
+  pub after : from ≡ min (i * size) n
+  pub bytes : k ≡ min size (n - from)
+
+pub next-turn : (size n i from k : ℕ) → Turn size n i from k → from + k ≡ min ((i + 1) * size) n
+next-turn size n i from k t =
+    let e : (i + 1) * size ≡ i * size + size = omega arith in
+    rw e (sum (i * size) size n from k (t .after) (t .bytes))
+  where
+    sum : (a size n from k : ℕ) → from ≡ min a n → k ≡ min size (n - from) → from + k ≡ min (a + size) n
+    sum a size n from k e f = omega (arith, e, f)
+
+-- a block that has a byte of them is one of the blocks
+pub turn-within : (size n i from blocks : ℕ) → from ≡ min (i * size) n → from < n → n ≤ blocks * size → i < blocks
+turn-within size n i from blocks e h m = elim (decLe blocks i) [
+  | yes g ↦ absurd (omega (arith, e, h, m, mul-le-mul-right size g))
+  | no g ↦ omega (arith, g)
+]
+
+-- and lies in the store, whose bytes are more than its number
+pub turn-room : (size block blocks i held : ℕ) → 1 ≤ size → i < blocks → (block + blocks) * size ≤ held → ((block + i + 1) * size ≤ held) × (block + i < held)
+turn-room size block blocks i held o h m =
+    let g : block + i + 1 ≤ block + blocks = omega (arith, h) in
+    let r : (block + i + 1) * size ≤ held = omega (arith, m, mul-le-mul-right size g) in
+    (r, omega (arith, r, mul-le-mul-left (block + i + 1) o))
+
+module _ (dev : Device) (c : Ccw) (main store : List ℕ) (block : ℕ) where
+  pub read-turn : (blocks n i from k : ℕ) → Turn (dev .block) n i from k → from < n → n ≤ blocks * dev .block → (block + blocks) * dev .block ≤ length store → c .address ≤ length main
+      → deliveredFrom c (delivered c main (take from (blocksFrom dev store block blocks))) from (take k (blockAt dev store (block + i)))
+      ≡ delivered c main (take (from + k) (blocksFrom dev store block blocks))
+  read-turn blocks n i from k t h m r a =
+      let here : from ≡ i * dev .block = omega (arith, t .after, h) in
+      let small : k ≤ dev .block = omega (arith, t .bytes) in
+      let fits : from + k ≤ n = omega (arith, t .bytes, h) in
+      let held : from ≤ length (blocksFrom dev store block blocks) = rw (blocks-from-part dev store block blocks, length-part store (block * dev .block) (blocks * dev .block) (omega (arith, r))) (omega (arith, fits, m)) in
+      let sum : take (from + k) (blocksFrom dev store block blocks) ≡ take from (blocksFrom dev store block blocks) ++ take k (blockAt dev store (block + i))
+      = rw here (take-blocks-more dev store block blocks i k small (omega (arith, here, fits, m))) in
+      delivered-more c main _ _ from (sym (length-take-le from _ held)) a ∙ sym (ap (delivered c main) sum)
+
+  pub store-turn : (n i from k : ℕ) (s : List ℕ) → Turn (dev .block) n i from k → s ≡ blocksInto dev store block i (fetched c main n)
+      → put s (blockStart dev (block + i)) (pad (dev .block) (fetchedFrom c main from k)) ≡ blocksInto dev store block (i + 1) (fetched c main n)
+  store-turn n i from k s t e = rw (e, fetched-block c main (dev .block) n i from k (t .after) (t .bytes)) (sym (blocks-into-last dev store block i (fetched c main n)))
+
+-- a block that bytes were fetched into, `b`, and whose rest was cleared and came `back`
+pub filled : (c : Ccw) (main d b back : List ℕ) (from n : ℕ) → b ≡ put d 0 (fetchedFrom c main from n) → back ≡ zeros (length (midOf n (length b - n) b))
+    → c .address + (from + n) ≤ length main → n ≤ length d → putMid n (length b - n) b back ≡ pad (length d) (fetchedFrom c main from n)
+unfolding fetchedFrom
+filled c main d b back from n e f h g =
+    let l : List ℕ = part main (c .address + from) n in
+    let long : length l ≡ n = length-part main (c .address + from) n (omega arith) in
+    pad-cleared d l b back n (omega (arith, long)) (e ∙ ap (put d 0) (sym (take-all n l (omega (arith, long))))) f

@@ -1,0 +1,17 @@
+-- `place` meets its contract: it is the definition. Assumes nothing.
+use mathlib.Core.Path.{refl}
+use native.Mathlib.Omega.{arith}
+use Rattle.model.specs.Lent.{blockStart}
+use borrow.Author.Needs.{needs}
+use Rattle.blocks.proofs.place.Statement.{statement}
+use Rattle.blocks.proofs.place.Tie as tie
+
+returns : tie.Need-returns
+unfolding blockStart
+returns c = (refl, omega arith)
+
+pub place-spec : {M : Type 1} → statement M
+place-spec = tie.close
+    (tie.spec
+    (search needs)  -- mul-result
+    returns)

@@ -1,0 +1,24 @@
+-- `store_block` meets its contract: the part of the store that is lent is filled, and is the block. Assumes nothing.
+use Rattle.slices.proofs.Laws.{put-lent-filled}
+use native.Mathlib.Omega.{arith}
+use borrow.Author.Needs.{needs}
+use Rattle.blocks.proofs.store_block.Statement.{statement}
+use Rattle.blocks.proofs.store_block.Tie as tie
+
+returns : tie.Need-returns
+returns c =
+    let placed = c .before .before .before .before .before .place .ensures in
+    rw (← (placed .0)) (put-lent-filled _ _ _ _ _ (c .before .before .fill .ensures) (omega arith))
+
+pub store-block-spec : {M : Type 1} → statement M
+store-block-spec =
+    tie.close
+    (tie.spec
+    (search needs)  -- place-requires
+    (search needs)  -- add-end
+    (search needs)  -- sub-fill
+    (search needs)  -- part-fill-start
+    (search needs)  -- part-fill-end
+    (search needs)  -- fill-requires
+    (search needs)  -- same-length
+    returns)

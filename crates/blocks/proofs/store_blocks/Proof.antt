@@ -1,0 +1,86 @@
+-- `store_blocks` meets its contract. Before block i the blocks before it are stored; `blocks - i` falls. Assumes nothing.
+use Prim.Native.Nat.{ℕ, _+_, _-_, _*_, _≤_, _<_, min}
+use mathlib.Core.Path.{_≡_, refl, _∙_}
+use lib.ListN.{length}
+use native.Mathlib.Nat.{zero-mul, zero-min}
+use native.Mathlib.Omega.{arith}
+use borrow.Author.Needs.{needs}
+use Rattle.model.specs.Lent.{fetched, blocksInto}
+use Rattle.blocks.proofs.Turns.{turn-room, Turn, next-turn, store-turn}
+use Rattle.blocks.proofs.store_blocks.Statement.{statement}
+use Rattle.blocks.proofs.store_blocks.Tie as tie
+
+abbrev Inv-loop : tie.InvT-loop
+Inv-loop d store₀ block blocks c main n from₀ i₀ store from i =
+    (i ≤ blocks) × (from ≡ min (i * d .block) n) × (length store ≡ length store₀) × (store ≡ blocksInto d store₀ block i (fetched c main n))
+
+abbrev μ-loop : tie.MeasureT-loop
+μ-loop d store₀ block blocks c main n from₀ i₀ store from i = blocks - i
+
+loop-holds : tie.Need-loop-holds Inv-loop μ-loop
+unfolding blocksInto
+loop-holds c = (omega arith, rw (zero-mul, zero-min) refl, refl, refl)
+
+-- block i lies in the store
+room : (c : tie.In-loop Inv-loop μ-loop) → let a = c .before .before .before .before .args in let b : ℕ = a .block + c .before .loop .i in
+    ((b + 1) * a .d .block ≤ length (a .store .now)) × (b < length (a .store .now))
+room c =
+    let first = c .before .before .before .before in
+    let a = first .args in
+    turn-room (a .d .block) (a .block) (a .blocks) _ _ (first .pre .0) (c .loop-test .taken) (first .pre .2)
+
+sub-least : tie.Need-sub-least Inv-loop μ-loop
+sub-least c = omega (arith, c .before .loop .inv .1)
+
+add-store-block : tie.Need-add-store-block Inv-loop μ-loop
+add-store-block c = omega (arith, room (c .before .before) .1)
+
+store-block-requires : tie.Need-store-block-requires Inv-loop μ-loop
+store-block-requires c κs =
+    let turn = c .before .before in
+    let first = turn .before .before .before .before in
+    let k = c .before .least .ensures in
+    let l = turn .before .loop .inv in
+    (rw (l .2) (room turn .0), omega (arith, k), first .pre .1, omega (arith, k, l .1, first .pre .4))
+
+add-from : tie.Need-add-from Inv-loop μ-loop
+add-from c =
+    let first = c .before .before .before .before .before .before .before .before .before in
+    omega (arith, c .before .before .before .before .least .ensures, first .pre .1)
+
+loop-again : tie.Need-loop-again Inv-loop μ-loop
+loop-again c =
+    let turn = c .before .before .before .before .before in
+    let first = turn .before .before .before .before in
+    let a = first .args in
+    let l = turn .before .loop in
+    let t : Turn (a .d .block) (a .n) (l .i) (l .from) _ = record { after = l .inv .1; bytes = c .before .before .before .before .least .ensures } in (
+      omega (arith, turn .loop-test .taken),
+      next-turn _ _ _ _ _ t,
+      omega (arith, l .inv .2),
+      c .before .before .store-block .ensures ∙ store-turn (a .d) (a .c) (a .main .now) (a .store .now) (a .block) (a .n) (l .i) (l .from) _ _ t (l .inv .3),
+    )
+
+returns : tie.Need-returns Inv-loop μ-loop
+returns c =
+    let l = c .before .loop in
+    let done : l .i ≡ c .before .before .before .before .args .blocks = omega (arith, l .inv .0, c .loop-test .left) in
+    rw done at (l .inv .3)
+
+pub store-blocks-spec : {M : Type 1} → statement M
+store-blocks-spec =
+    tie.close
+    (tie.spec
+    Inv-loop
+    μ-loop
+    loop-holds
+    sub-least
+    (search needs)  -- least-requires
+    add-store-block
+    store-block-requires
+    add-from
+    (search needs)  -- add-i
+    (search needs)  -- loop-less
+    loop-again
+    (search needs)  -- same-length
+    returns)

@@ -1,0 +1,76 @@
+// The causes that refuse a call before any command: 1 to 5. The way in is `call_cause`, which is 0 where the chain may run.
+ghost use mathlib.Core.Path.{_≡_};
+ghost use mathlib.Core.Bool.{not, _||_};
+ghost use Prim.Native.Nat.{_/_, _%_, _≤_};
+ghost use lib.Dec.{ltb, eqb};
+ghost use lib.ListN.{length};
+ghost use Rattle.model.specs.Rules.{firstOf};
+ghost use Rattle.model.specs.Causes.{allChained, callCauses};
+use channel::ccw::ccw_at;
+use model::device::Device;
+
+// No CCW, more than 32, or a part of one.
+fn chain_wrong(len: usize) -> bool
+    ensures { λ r. ⌜ r ≡ (eqb len 0 || ltb 256 len || not (eqb (len % 8) 0)) ⌝ }
+{
+    if len == 0 {
+        return true;
+    }
+    if 256 < len {
+        return true;
+    }
+    len % 8 != 0
+}
+
+// No block, a part of one, or more than 131,072.
+fn store_wrong(size: usize, len: usize) -> bool
+    requires { ⌜ 1 ≤ size ⌝ }
+    ensures { λ r. ⌜ r ≡ (eqb len 0 || not (eqb (len % size) 0) || ltb 131072 (len / size)) ⌝ }
+{
+    if len == 0 {
+        return true;
+    }
+    if len % size != 0 {
+        return true;
+    }
+    131072 < len / size
+}
+
+// Each CCW has flag 40, so no CCW is the chain's last.
+fn all_chained(chain: &[u8]) -> bool
+    ensures { λ r. ⌜ r ≡ allChained (now (chain .entry)) (length (now (chain .entry)) / 8) ⌝ }
+{
+    let n = chain.len() / 8;
+    let mut i = 0;
+    while i < n {
+        let c = ccw_at(chain, i);
+        if !c.flags.chained() {
+            return false;
+        }
+        i += 1;
+    }
+    true
+}
+
+// The lowest cause that holds of the call, or 0.
+pub fn call_cause(d: Device, chain: &[u8], main: &[u8], store: &[u8], answers: &[u8]) -> u8
+    requires { ⌜ 1 ≤ d .block ⌝ }
+    ensures { λ r. ⌜ r ≡ firstOf (callCauses d (now (chain .entry)) (now (main .entry)) (now (store .entry)) (now (answers .entry))) ⌝ }
+{
+    if chain_wrong(chain.len()) {
+        return 1;
+    }
+    if store_wrong(d.block, store.len()) {
+        return 2;
+    }
+    if 16777216 < main.len() {
+        return 3;
+    }
+    if answers.len() < chain.len() {
+        return 4;
+    }
+    if all_chained(chain) {
+        return 5;
+    }
+    0
+}

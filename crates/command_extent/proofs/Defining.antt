@@ -1,0 +1,52 @@
+-- DEFINE EXTENT once its sixteen bytes were fetched. No contract cites this file.
+--     define-ends   what its parameters decide is what the command does
+use Prim.Native.Nat.{ℕ, _+_, _≤_, _<_}
+use mathlib.Core.Path.{_≡_, refl, sym, ap, _∙_}
+use mathlib.Core.Bool.{false, and-false}
+use mathlib.Core.List.{List}
+use lib.ListN.{length}
+use native.Mathlib.Omega.{arith}
+use borrow.Author.Tests.{le-ltb, ne-eqb}
+use Rattle.numbers.proofs.Choice.{pick-false}
+use Rattle.slices.specs.Parts.{zeros, put}
+use Rattle.model.specs.declared.ccw.Ccw.{Ccw}
+use Rattle.model.specs.declared.device.Device.{Device}
+use Rattle.model.specs.declared.record.Record.{Record}
+use Rattle.model.specs.declared.state.Before.the-variants.{Other}
+use Rattle.model.specs.Names.{DEFINE-EXTENT}
+use Rattle.model.specs.Rules.{firstOf}
+use Rattle.model.specs.Lent.{fetched, blockCount}
+use Rattle.model.specs.Parameters.{extentLength, extentIn}
+use Rattle.model.specs.Causes.{extentCauses, defineExtentCauses}
+use Rattle.model.specs.Commands.{out, ended, cleared, defineDone, defineExtent, decided, performed}
+use Rattle.model.proofs.Verdicts.{first-later, never-given}
+use Rattle.model.proofs.Steps.{performed-define}
+use Rattle.storage.specs.Area.{fetchedFrom}
+use Rattle.storage.proofs.Laws.{fetched-array}
+use Rattle.unit_state.specs.declared.Running.{Running}
+use Rattle.unit_state.specs.Standing.{withExtent, stateOf, Handed}
+use Rattle.unit_state.proofs.Units.{with-extent, same-counts}
+use Rattle.endings.specs.declared.Ended.{Ended}
+use Rattle.endings.specs.Ending.{shown, Ends}
+use Rattle.endings.proofs.Ends.{decided-by}
+use Rattle.command_extent.specs.Answers.{definedBy}
+
+module _ (u : Record) (dev : Device) (c : Ccw) (s : Running) (main store : List ℕ) where
+  defined-out : (p : List ℕ) → out (ended (stateOf u (withExtent s (s .counts) (extentIn p) Other)) extentLength extentLength 0) main store ≡ out (defineDone (cleared (stateOf u s)) p) main store
+  unfolding defineDone
+  defined-out p = rw (with-extent u s (s .counts) (extentIn p) Other, same-counts u s) refl
+
+  pub define-ends : (blocks : ℕ) (p : List ℕ) (r : Ended) → r ≡ definedBy dev blocks c s p → blocks ≡ blockCount dev store
+      → p ≡ put (zeros extentLength) 0 (fetchedFrom c main 0 extentLength) → Handed c main → c .command ≡ DEFINE-EXTENT → extentLength ≤ c .count → s .defined ≡ false
+      → Ends u c s r main store (performed dev c (stateOf u s) main store)
+  unfolding definedBy defineExtentCauses extentCauses stateOf defineExtent shown
+  define-ends blocks p r e b f h k l n =
+      let bytes = fetched-array c main extentLength p f (omega (arith, h .area, l)) in
+      let verdict : firstOf (defineExtentCauses dev (blockCount dev store) c (stateOf u s) (fetched c main extentLength)) ≡ firstOf (extentCauses dev (blockCount dev store) (fetched c main extentLength))
+      = first-later _ _ (le-ltb _ _ l) ∙ first-later _ _ n in
+      decided-by u c s main store _ _ _ (withExtent s (s .counts) (extentIn (fetched c main extentLength)) Other) extentLength (zeros 8) r
+      (performed-define dev c (stateOf u s) main store k ∙ ap (λ (v : ℕ). decided c (stateOf u s) main store v (defineExtent c (cleared (stateOf u s)) main store)) verdict)
+      (e ∙ rw (b, bytes) refl)
+      (λ _. sym (pick-false _ _ _ (ne-eqb _ _ (never-given 39 (extentCauses dev (blockCount dev store) (fetched c main extentLength)) refl (λ z. omega arith)))))
+      (rw k (sym (and-false (s .kept))))
+      (defined-out (fetched c main extentLength))

@@ -1,0 +1,52 @@
+-- `locate` meets its contract. 30 and 31 are lines of its table; past them the eight bytes are there, and decide. Assumes nothing.
+use mathlib.Core.Path.{refl, sym, ap, _∙_}
+use mathlib.Core.Bool.{not}
+use native.Mathlib.Omega.{arith}
+use borrow.Author.Needs.{needs}
+use borrow.Author.Tests.{lt-ltb, le-ltb, not-false}
+use Rattle.slices.specs.Parts.{zeros}
+use Rattle.model.specs.Causes.{locateCauses}
+use Rattle.model.proofs.Verdicts.{first-here, first-later}
+use Rattle.model.proofs.Steps.{performed-locate}
+use Rattle.unit_state.specs.Standing.{stateOf}
+use Rattle.endings.proofs.Ends.{refused-by}
+use Rattle.command_locate.proofs.Locating.{locate-ends}
+use Rattle.command_locate.proofs.locate.Statement.{statement}
+use Rattle.command_locate.proofs.locate.Tie as tie
+
+returns : tie.Need-returns
+unfolding locateCauses stateOf
+returns c =
+    let first = c .before .before .before .before in
+    let a = first .args in
+    λ d store. refused-by (a .u) (a .c) (a .s) (a .main .now) store _ _ _ 30 _ (performed-locate d (a .c) _ (a .main .now) store (first .pre .1))
+    (c .refuse .ensures) (first-here _ _ (c .before .if1 .taken)) refl refl
+
+returns-2 : tie.Need-returns-2
+unfolding locateCauses stateOf
+returns-2 c =
+    let first = c .before .before .before .before .before .before in
+    let a = first .args in
+    λ d store. refused-by (a .u) (a .c) (a .s) (a .main .now) store _ _ _ 31 _ (performed-locate d (a .c) _ (a .main .now) store (first .pre .1))
+    (c .refuse2 .ensures) (first-later _ _ (c .before .before .before .if1 .left) ∙ first-here _ _ (lt-ltb _ _ (c .before .if2 .taken))) refl refl
+
+returns-3 : tie.Need-returns-3
+unfolding zeros
+returns-3 c =
+    let at = c .before .before .before .before in
+    let first = at .before .before .before .before .before in
+    let a = first .args in
+    λ d store. locate-ends (a .u) d (a .c) (a .s) (a .main .now) store _ _ (c .locate-by .ensures) (c .before .before .fetch .ensures) (first .pre .0) (first .pre .1) (at .before .before .if1 .left) (at .if2 .left)
+
+pub locate-spec : {M : Type 1} → statement M
+locate-spec =
+    tie.close
+    (tie.spec
+    (search needs)  -- refuse-requires
+    returns
+    (search needs)  -- refuse-requires-2
+    returns-2
+    (search needs)  -- slice-aggregate-fetch
+    (search needs)  -- fetch-requires
+    (search needs)  -- locate-by-requires
+    returns-3)

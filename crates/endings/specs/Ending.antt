@@ -1,0 +1,74 @@
+-- How the code's command ends, and what that says of the definition's.
+--     answerWords, answerBytes   an answer as the code carries it, and its bytes
+--     marked                     those bytes, where the length is wrong
+--     wrongBy                    the length is wrong: of an accepted command alone
+--     endOf                      what `end` makes, whole
+--     shown                      the parameters that are left beside a cause: the LOCATE's eight bytes with 39, else zeros
+--     Leaves                     what is left of the unit is what the definition's command left, and nothing in it is open
+--     Ends                       so is all that a command gives: the promise of every command
+-- Assumes nothing.
+use Prim.Native.Nat.{ℕ, _+_, _-_, _*_}
+use mathlib.Core.Path.{_≡_}
+use mathlib.Core.Bool.{Bool, true, false, _&&_}
+use mathlib.Core.List.{List, _++_}
+use lib.ListN.{set}
+use Rattle.numbers.specs.Choice.{_=?_, pick}
+use Rattle.numbers.specs.Big.{bytes4}
+use Rattle.slices.specs.Parts.{zeros}
+use Rattle.model.specs.declared.ccw.Ccw.{Ccw}
+use Rattle.model.specs.declared.kind.Kind.{Kind}
+use Rattle.model.specs.declared.kind.Kind.the-variants.{Accepted, ProgramCheck, UnitCheck}
+use Rattle.model.specs.declared.record.Record.{Record}
+use Rattle.model.specs.Names.{NO-OPERATION, INCORRECT-LENGTH}
+use Rattle.model.specs.Lent.{fetched}
+use Rattle.model.specs.Parameters.{locateLength}
+use Rattle.model.specs.Causes.{kindOf}
+use Rattle.model.specs.Commands.{Out}
+use Rattle.model.specs.Answer.{unitStatus, channelBy, wrongLength, residual}
+use Rattle.unit_state.specs.declared.Running.{Running}
+use Rattle.unit_state.specs.declared.Left.{Left}
+use Rattle.unit_state.specs.Standing.{stateLeft}
+use Rattle.endings.specs.declared.Answer.{Answer}
+use Rattle.endings.specs.declared.Ended.{Ended}
+
+-- unit status, channel status and residual (2); cause, zero and blocks moved (2)
+abbrev pub answerWords : Kind → ℕ → ℕ → ℕ → Answer
+answerWords kind left cause blocks = record { front = (unitStatus kind * 256 + channelBy kind false) * 65536 + left; back = cause * 16777216 + blocks }
+
+abbrev pub answerBytes : Answer → List ℕ
+answerBytes a = bytes4 (a .front) ++ bytes4 (a .back)
+
+-- the channel marks a wrong length in byte 1
+abbrev pub marked : Bool → List ℕ → List ℕ
+marked true answer = set answer 1 INCORRECT-LENGTH
+marked false answer = answer
+
+abbrev pub wrongBy : Kind → Ccw → ℕ → Bool
+wrongBy Accepted c can = wrongLength c can
+wrongBy ProgramCheck c can = false
+wrongBy UnitCheck c can = false
+
+abbrev pub endOf : Ccw → Running → ℕ → ℕ → ℕ → ℕ → List ℕ → Ended
+endOf c s moved can blocks cause parameters = record {
+  left = record { state = s; parameters = parameters; cause = cause };
+  answer = answerWords (kindOf cause) (c .count - moved) cause blocks;
+  wrong = wrongBy (kindOf cause) c can;
+}
+
+unfoldable pub shown : ℕ → List ℕ → List ℕ
+shown cause parameters = pick (cause =? 39) parameters (zeros 8)
+
+-- in a chain that found record u, of a command that found state s
+pub record Leaves (u : Record) (c : Ccw) (s : Running) (l : Left) (o : Out) : Type 0 where
+  pub state : stateLeft u l ≡ o .done .state
+  pub cause : l .cause ≡ o .done .cause
+  pub kept : l .cause ≡ 0 → l .state .kept ≡ (s .kept && c .command =? NO-OPERATION)
+  pub refused : (l .cause ≡ 0 → ⊥) → l .state ≡ s
+  pub parameters : l .parameters ≡ shown (l .cause) (fetched c (o .main) locateLength)
+
+pub record Ends (u : Record) (c : Ccw) (s : Running) (r : Ended) (main store : List ℕ) (o : Out) : Type 0 where
+  pub left : Leaves u c s (r .left) o
+  pub answer : r .answer ≡ answerWords (kindOf (o .done .cause)) (residual c (o .done)) (o .done .cause) (o .done .blocks)
+  pub wrong : r .wrong ≡ wrongBy (kindOf (o .done .cause)) c (o .done .can)
+  pub main-same : main ≡ o .main
+  pub store-same : store ≡ o .store

@@ -1,0 +1,61 @@
+-- Laws of the kinds of causes. No contract cites this file.
+--     leaves-ind, leaves-both   a property of what each kind leaves is one of what a command leaves
+--     leaves-any                parameters show in cause 39 alone
+--     channel-refused           the channel status of a refusal does not look at the length
+--     status-byte, channel-byte   the statuses are bytes
+use Prim.Native.Nat.{ℕ, _<_}
+use mathlib.Core.Path.{_≡_, refl, ap}
+use mathlib.Core.Bool.{Bool, true, false}
+use mathlib.Core.List.{List, [], _∷_}
+use borrow.Author.Tests.{ne-eqb}
+use native.Mathlib.Omega.{arith}
+use Rattle.numbers.specs.Choice.{pick, oneOf}
+use Rattle.model.specs.declared.kind.Kind.{Kind}
+use Rattle.model.specs.declared.kind.Kind.the-variants.{Accepted, ProgramCheck, UnitCheck}
+use Rattle.model.specs.declared.state.Before.the-variants.{Other}
+use Rattle.model.specs.State.{State}
+use Rattle.model.specs.Causes.{kindBy, kindOf}
+use Rattle.model.specs.Sense.{senseOf}
+use Rattle.model.specs.Log.{withSense}
+use Rattle.model.specs.Commands.{after, leaves}
+use Rattle.model.specs.Answer.{unitStatus, channelBy}
+
+pub leaves-ind : (P : State → Type 0) (k : Kind) (s : State) (w : ℕ) (p : List ℕ)
+    → P s → P (after s (s .unit) Other) → P (after s (withSense (s .unit) (senseOf w p)) Other) → P (leaves k s w p)
+leaves-ind P Accepted s w p x y z = x
+leaves-ind P ProgramCheck s w p x y z = y
+leaves-ind P UnitCheck s w p x y z = z
+
+pub leaves-both : (P : State → State → Type 0) (k : Kind) (s t : State) (w : ℕ) (p q : List ℕ)
+    → P s t → P (after s (s .unit) Other) (after t (t .unit) Other) → P (after s (withSense (s .unit) (senseOf w p)) Other) (after t (withSense (t .unit) (senseOf w q)) Other)
+    → P (leaves k s w p) (leaves k t w q)
+leaves-both P Accepted s t w p q x y z = x
+leaves-both P ProgramCheck s t w p q x y z = y
+leaves-both P UnitCheck s t w p q x y z = z
+
+pub status-byte : (k : Kind) → unitStatus k < 256
+status-byte Accepted = omega arith
+status-byte ProgramCheck = omega arith
+status-byte UnitCheck = omega arith
+
+pub channel-byte : (k : Kind) (wrong : Bool) → channelBy k wrong < 256
+channel-byte Accepted true = omega arith
+channel-byte Accepted false = omega arith
+channel-byte ProgramCheck wrong = omega arith
+channel-byte UnitCheck wrong = omega arith
+
+sense-any : (w : ℕ) (p q : List ℕ) → (w ≡ 39 → ⊥) → senseOf w p ≡ senseOf w q
+unfolding senseOf pick
+sense-any w p q n = rw (ne-eqb w 39 n)
+
+pub leaves-any : (k : Kind) (s : State) (w : ℕ) (p q : List ℕ) → (w ≡ 39 → ⊥) → leaves k s w p ≡ leaves k s w q
+leaves-any Accepted s w p q n = refl
+leaves-any ProgramCheck s w p q n = refl
+leaves-any UnitCheck s w p q n = ap (λ (l : List ℕ). after s (withSense (s .unit) l) Other) (sense-any w p q n)
+
+pub channel-refused : (w : ℕ) (a b : Bool) → (w ≡ 0 → ⊥) → channelBy (kindOf w) a ≡ channelBy (kindOf w) b
+channel-refused w a b n = rw (ne-eqb w 0 n) (go (oneOf (10 ∷ 11 ∷ 12 ∷ 13 ∷ []) w))
+  where
+    go : (channels : Bool) → channelBy (kindBy false channels) a ≡ channelBy (kindBy false channels) b
+    go true = refl
+    go false = refl

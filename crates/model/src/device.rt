@@ -1,0 +1,5 @@
+// The numbers of a device, handed down from the ways in to the blocks.
+pub struct Device {
+    // the bytes of a block
+    pub block: usize,
+}

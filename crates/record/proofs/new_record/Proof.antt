@@ -1,0 +1,16 @@
+-- `new_record` meets its contract: the definition makes the same record.
+-- Assumes nothing.
+use mathlib.Core.Path.{refl}
+use Rattle.slices.specs.Parts.{zeros}
+use Rattle.model.specs.Lent.{newRecord}
+use Rattle.record.proofs.new_record.Statement.{statement}
+use Rattle.record.proofs.new_record.Tie as tie
+
+returns : tie.Need-returns
+unfolding newRecord zeros
+returns c = refl
+
+pub new-record-spec : {M : Type 1} → statement M
+new-record-spec = tie.close
+    (tie.spec
+    returns)
