@@ -44,7 +44,7 @@ extern "C" {
  *
  * The most that one call can cost: 983,025 blocks stored, that is 503,308,800 bytes, nearly all of them zeros (fifteen short
  * WRITEs, each after a LOCATE for 65,535 blocks; on a smaller device 15 times its blocks), and 984,169 bytes moved to or
- * from main storage. On a 2-core x86-64 virtual machine that was 0.02 seconds, up to 0.11 where the cores were busy, and up to
+ * from main storage. On a 2-core x86-64 virtual machine that was 0.02 seconds, up to 0.12 where the cores were busy, and up to
  * 0.16 where the system had yet to give the store its memory (docs/SPEED.md).
  */
 uint32_t loughrella_run(const uint8_t *chain, size_t chain_len, uint8_t *storage, size_t storage_len, uint8_t *store,

@@ -4,6 +4,7 @@
 --     ends-unique     a command's ending with the two storages, `Ends u c s r main store ..`
 --     defined-unique, location-unique   an answer that is known by its number
 --     status-unique, channel-unique     a status that is known by its byte
+--     log-unique                        a log that is known by its bytes
 --     after-unique, made-unique         the run, by value and in place
 -- docs/PROOFS.md lists which function has which form. Assumes nothing.
 use Prim.Native.Nat.{ℕ}
@@ -13,7 +14,8 @@ use mathlib.Core.List.{List}
 use lib.Dec.{eqb}
 use Rattle.model.specs.declared.ccw.Ccw.{Ccw}
 use Rattle.model.specs.declared.record.Record.{Record}
-use Rattle.model.specs.Log.{withCounts}
+use Rattle.model.specs.declared.record.Counts.{Counts}
+use Rattle.model.specs.Log.{withCounts, logOf}
 use Rattle.model.specs.declared.status.Status.{Status}
 use Rattle.model.specs.declared.status.Channel.{Channel}
 use borrow.Author.Tests.{eqb-true, eqb-false}
@@ -25,13 +27,14 @@ use Rattle.command_locate.specs.declared.Location.the-variants.{Found, BadModif
 use Rattle.command_extent.specs.Answers.{definedNumber}
 use Rattle.command_locate.specs.Answers.{locationNumber}
 use Rattle.model.specs.Commands.{Out}
+use Rattle.log.specs.declared.Log.{Log}
 use Rattle.log.specs.Counts.{counted}
 use Rattle.unit_state.specs.declared.Running.{Running}
 use Rattle.unit_state.specs.Standing.{unitOf, stateOf}
 use Rattle.endings.specs.declared.Ended.{Ended}
 use Rattle.unit_state.specs.declared.Left.{Left}
 use Rattle.endings.specs.Ending.{shown, Leaves, Ends}
-use Rattle.model.specs.Lent.{fetched}
+use Rattle.model.specs.Lent.{fetched, newRecord}
 use Rattle.model.specs.Parameters.{locateLength}
 use Rattle.in_place.specs.declared.Ran.{Ran}
 use Rattle.in_place.specs.Run as lending
@@ -97,6 +100,10 @@ status-unique n a b p q = λ i. record { 0 = same-by (a .0) (b .0) n p q i }
 
 pub channel-unique : (n : ℕ) (a b : Channel) → a .0 ≡ n → b .0 ≡ n → a ≡ b
 channel-unique n a b p q = λ i. record { 0 = same-by (a .0) (b .0) n p q i }
+
+-- whatever record the counts are those of: of any one
+pub log-unique : (k : Counts) (a b : Log) → ((u : Record) → a .0 ≡ logOf (counted u k)) → ((u : Record) → b .0 ≡ logOf (counted u k)) → a ≡ b
+log-unique k a b p q = λ i. record { 0 = same-by (a .0) (b .0) (logOf (counted (newRecord 0 0) k)) (p (newRecord 0 0)) (q (newRecord 0 0)) i }
 
 -- the answer that has a number: there and back
 definedOf : ℕ → Defined

@@ -1,5 +1,5 @@
 -- What the unit knows while a chain runs, and what one command gives. The code carries neither: it has its own form of both
--- (crates/unit_state, crates/outcomes), and its promises say which of these that form stands for.
+-- (crates/unit_state, crates/endings), and its promises say which of these that form stands for.
 --     State   the unit record, the extent, the LOCATE that was accepted last, and the command directly before
 --     Done    the state that a command leaves and the numbers of its answer; cause 0 is acceptance
 -- Assumes nothing.

@@ -130,7 +130,7 @@ fn run(
     let m = least(v.storage, storage.len());
     let s = least(store_bytes(v.setting), store.len());
     let a = least(v.answers, answers.len());
-    in_place::run_core(
+    in_place::run_lending(
         unit,
         &chain[0..c],
         &mut storage[0..m],
