@@ -24,6 +24,7 @@ ghost use Rattle.numbers.specs.Choice.{pick, oneOf};
 ghost use Rattle.model.specs.declared.device.Device.{Device};
 ghost use Rattle.model.specs.Names.{LOCATE};
 ghost use Rattle.model.specs.Rules.{firstOf};
+ghost use Rattle.model.specs.Lent.{fetched};
 ghost use Rattle.model.specs.Parameters.{locateLength, locatedIn, operations, writes, forbids, outside};
 ghost use Rattle.model.specs.Causes.{locationCauses, permissionCauses};
 ghost use Rattle.model.specs.Commands.{performed};
@@ -223,24 +224,29 @@ pub fn locate_parameters(u: Record, s: Running, p: &[u8]) -> Location
 // The bytes that LOCATE moves.
 const LOCATE_LENGTH: usize = 8;
 
-// The parameters that a cause shows: these with 39, else zeros.
-fn shown_by(cause: u8, p: [u8; 8]) -> [u8; 8]
-    ensures { λ r. ⌜ r ≡ shown cause p ⌝ }
+// The parameters that a cause shows: the LOCATE's eight bytes with 39, else zeros.
+fn shown_by(cause: u8, c: Ccw, main: &[u8]) -> [u8; 8]
+    requires { ⌜ Handed c (now main) × (locateLength ≤ c .count) ⌝ }
+    ensures { λ r. ⌜ r ≡ shown cause (fetched c (now (main .entry)) locateLength) ⌝ }
 {
-    if cause == 39 { p } else { [0u8; 8] }
+    let mut p = [0u8; LOCATE_LENGTH];
+    if cause == 39 {
+        fetch(c, main, 0, &mut p, LOCATE_LENGTH);
+    }
+    p
 }
 
 // The command by its eight bytes.
-fn locate_by(u: Record, c: Ccw, s: Running, p: [u8; 8]) -> Ended
-    requires { ⌜ (locateLength ≤ c .count) × (c .count < 65536) ⌝ }
-    ensures { λ r. ⌜ r ≡ locatedBy u c s p ⌝ }
+fn locate_by(u: Record, c: Ccw, s: Running, main: &[u8], p: &[u8]) -> Ended
+    requires { ⌜ Handed c (now main) × (locateLength ≤ c .count) × (now p ≡ fetched c (now main) locateLength) ⌝ }
+    ensures { λ r. ⌜ r ≡ locatedBy u c s (fetched c (now (main .entry)) locateLength) ⌝ }
 {
-    let answer = locate_parameters(u, s, &p);
+    let answer = locate_parameters(u, s, p);
     let cause = answer.number();
     if cause != 0 {
-        return end(c, s, 0, 0, 0, cause, shown_by(cause, p));
+        return end(c, s, 0, 0, 0, cause, shown_by(cause, c, main));
     }
-    let t = locate_set(s, movement_counted(s.counts), located_in(&p));
+    let t = locate_set(s, movement_counted(s.counts), located_in(p));
     accept(c, t, LOCATE_LENGTH, LOCATE_LENGTH, 0)
 }
 
@@ -257,5 +263,5 @@ pub fn locate(u: Record, c: Ccw, s: Running, main: &[u8]) -> Ended
     }
     let mut p = [0u8; LOCATE_LENGTH];
     fetch(c, main, 0, &mut p, LOCATE_LENGTH);
-    locate_by(u, c, s, p)
+    locate_by(u, c, s, main, &p)
 }
