@@ -9,6 +9,7 @@ use model::ccw::Ccw;
 use model::extent::Displacement;
 use model::extent::Extent;
 use model::extent::Located;
+use model::operation;
 use model::record::Record;
 use storage::fetch;
 use unit_state::Running;
@@ -80,16 +81,16 @@ pub fn located_in(p: &[u8]) -> Located
     }
 }
 
-// 1 write, 2 read replicated, 4 format, 5 write and check, 6 read.
-fn is_operation(operation: u32) -> bool
-    ensures { λ r. ⌜ r ≡ oneOf operations operation ⌝ }
+// One of the five.
+fn is_operation(code: u32) -> bool
+    ensures { λ r. ⌜ r ≡ oneOf operations code ⌝ }
 {
-    match operation {
-        1 => true,
-        2 => true,
-        4 => true,
-        5 => true,
-        6 => true,
+    match code {
+        operation::WRITE_DATA => true,
+        operation::READ_REPLICATED => true,
+        operation::FORMAT => true,
+        operation::WRITE_CHECK => true,
+        operation::READ_DATA => true,
         _ => false,
     }
 }
@@ -101,7 +102,7 @@ fn count_wrong(l: Located) -> bool
     if l.blocks == 0 {
         return true;
     }
-    if l.operation != 4 {
+    if l.operation != operation::FORMAT {
         return false;
     }
     l.blocks != 1
@@ -112,7 +113,7 @@ fn replication_wrong(l: Located, replication: usize) -> bool
     requires { ⌜ (l .blocks ≡ 0 → ⊥) ⌝ }
     ensures { λ r. ⌜ r ≡ (eqb (l .operation) 2 && (ltb replication (l .blocks) || not (eqb (replication % l .blocks) 0))) ⌝ }
 {
-    if l.operation != 2 {
+    if l.operation != operation::READ_REPLICATED {
         return false;
     }
     let unit = l.blocks;
@@ -126,7 +127,7 @@ fn replication_wrong(l: Located, replication: usize) -> bool
 fn blocks_processed(l: Located, replication: usize) -> usize
     ensures { λ r. ⌜ r ≡ pick (eqb (l .operation) 2) replication (l .blocks) ⌝ }
 {
-    if l.operation == 2 {
+    if l.operation == operation::READ_REPLICATED {
         replication
     } else {
         l.blocks
@@ -162,19 +163,19 @@ fn mask_forbids(mask: u32, operation: u32) -> bool
 }
 
 // The unit is read-only, and the operation writes or formats.
-fn write_inhibited(read_only: u8, operation: u32) -> bool
-    ensures { λ r. ⌜ r ≡ (not (eqb «read_only» 0) && (writes operation || eqb operation 4)) ⌝ }
+fn write_inhibited(read_only: u8, code: u32) -> bool
+    ensures { λ r. ⌜ r ≡ (not (eqb «read_only» 0) && (writes code || eqb code 4)) ⌝ }
 {
     if read_only == 0 {
         return false;
     }
-    if operation == 1 {
+    if code == operation::WRITE_DATA {
         return true;
     }
-    if operation == 5 {
+    if code == operation::WRITE_CHECK {
         return true;
     }
-    operation == 4
+    code == operation::FORMAT
 }
 
 // What is asked for is within the extent, and the mask, the switch and the alternates allow it.
@@ -192,7 +193,7 @@ fn permit(u: Record, s: Running, l: Located, n: usize) -> Location
     if write_inhibited(u.read_only, l.operation) {
         return Location::ReadOnly;
     }
-    if l.operation == 4 {
+    if l.operation == operation::FORMAT {
         return Location::NoAlternate;
     }
     Location::Found
