@@ -5,13 +5,14 @@ ghost use lib.ListN.{length};
 ghost use Rattle.model.specs.Lent.{ccwSize, ccwAt};
 use model::ccw::Ccw;
 use model::ccw::Flags;
+use model::sizes;
 
 // CCW i, counted from 0. The bounds are for those who add address and count.
 pub fn ccw_at(chain: &[u8], i: usize) -> Ccw
     requires { ⌜ i * ccwSize + ccwSize ≤ length (now chain) ⌝ }
     ensures { λ r. ⌜ (r ≡ ccwAt (now (chain .entry)) i) × (r .count < 65536) × (r .address < 16777216) ⌝ }
 {
-    let at = i * Ccw::SIZE;
+    let at = i * sizes::CCW;
     Ccw {
         command: chain[at],
         address: numbers::be3(chain, at + 1),

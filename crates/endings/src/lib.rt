@@ -20,11 +20,6 @@ pub struct Answer {
     pub back: usize,
 }
 
-impl Answer {
-    // Its bytes.
-    pub const SIZE: usize = 8;
-}
-
 // `wrong`: so is the length, which the channel marks in the answer.
 pub struct Ended {
     pub left: Left,

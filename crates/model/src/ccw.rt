@@ -41,8 +41,3 @@ pub struct Ccw {
     pub flags: Flags,
     pub count: usize,
 }
-
-impl Ccw {
-    // Its bytes in a chain.
-    pub const SIZE: usize = 8;
-}

@@ -6,5 +6,6 @@ pub mod extent;
 pub mod kind;
 pub mod operation;
 pub mod record;
+pub mod sizes;
 pub mod state;
 pub mod status;

@@ -1,6 +1,7 @@
 // A chain as text, and what happened as text: `exercise`. Any input gets its answer; one with a wrong line gets that line's number.
 use in_place::run_lending;
 use model::record::Record;
+use model::sizes;
 use record::new_record;
 use text_input::MOST_BLOCKS;
 use text_input::MOST_CHAIN;
@@ -20,10 +21,8 @@ ghost use Rattle.text_output.specs.Printout.{printout};
 ghost use Rattle.text_input.specs.Format.{mostBlocks, mostStorage, mostChain, lines, wrongLine, Exercise, exerciseIn};
 ghost use Rattle.text_exercise.specs.Exercise.{device, mostStore, performed, exercise};
 
-// The bytes of a block, and of the largest store.
-const BLOCK: usize = 512;
-
-const MOST_STORE: usize = MOST_BLOCKS * BLOCK;
+// The bytes of the largest store.
+const MOST_STORE: usize = MOST_BLOCKS * sizes::BLOCK;
 
 // A run's code is this many times the call's cause, plus the commands reached.
 const PER_CAUSE: usize = 256;
@@ -34,7 +33,7 @@ fn number_blocks(store: &mut [u8], blocks: usize)
     ensures { λ _. ⌜ now (store .exit) ≡ device blocks ⌝ }
 {
     for i in 0..store.len() {
-        store[i] = (i / BLOCK) as u8;
+        store[i] = (i / sizes::BLOCK) as u8;
     }
 }
 
@@ -77,7 +76,7 @@ fn run_on_device(
     requires { ⌜ (s .blocks ≤ mostBlocks) × (length (now store) ≡ mostStore) × (length (now answers) ≡ length (now chain)) ⌝ }
     ensures { λ r. ⌜ Adds (now (output .entry)) 0 (printout (performed (record { settings = s; storage = now (main .entry); chain = now (chain .entry) }))) r (now (output .exit)) ⌝ }
 {
-    let size = s.blocks * BLOCK;
+    let size = s.blocks * sizes::BLOCK;
     number_blocks(&mut store[..size], s.blocks);
     let unit = new_record(s.ready, s.readonly);
     run(output, unit, chain, main, &mut store[..size], answers)

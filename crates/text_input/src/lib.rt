@@ -1,5 +1,6 @@
 // The input, line by line: whether it is right (`wrong_line`), and what a right one says (`settings_in`, `storage_in`, `chain_in`).
 // A line counts with the line feed that ends it.
+use model::sizes;
 use text_digits::decode;
 use text_digits::is_decimal;
 use text_digits::is_hex;
@@ -19,15 +20,12 @@ pub const MOST_BLOCKS: usize = 64;
 
 pub const MOST_STORAGE: usize = 1024;
 
-// The bytes of a CCW.
-const CCW: usize = 8;
-
 // The numbers of the first ccw line and of the last that may be, and the bytes of the longest chain.
 const FIRST_CCW: usize = 5;
 
 const LAST_CCW: usize = 36;
 
-pub const MOST_CHAIN: usize = (LAST_CCW + 1 - FIRST_CCW) * CCW;
+pub const MOST_CHAIN: usize = (LAST_CCW + 1 - FIRST_CCW) * sizes::CCW;
 
 // The bytes of a key, with its equals sign.
 const STORAGE_KEY: usize = 8;
@@ -143,7 +141,7 @@ fn right_line(n: usize, line: &[u8]) -> bool
     if LAST_CCW < n {
         return false;
     }
-    hex_line(line, b"ccw=", CCW, CCW)
+    hex_line(line, b"ccw=", sizes::CCW, sizes::CCW)
 }
 
 // The number of the first wrong or missing line, or 0.
@@ -238,10 +236,10 @@ pub fn chain_in(input: &[u8], to: &mut [u8]) -> usize
     let mut n = 0;
     while at < input.len() {
         let end = line_end(input, at);
-        let from = n * CCW;
+        let from = n * sizes::CCW;
         bytes_of(&input[at..end], CCW_KEY, &mut to[from..]);
         at = end;
         n += 1;
     }
-    n * CCW
+    n * sizes::CCW
 }

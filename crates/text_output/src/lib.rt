@@ -1,4 +1,5 @@
 // What is printed of a call (`print`), and of an input with a wrong line (`refuse`). A line goes to the output as far as it fits.
+use model::sizes;
 use text_digits::add;
 use text_digits::add_decimal;
 use text_digits::add_hex;
@@ -8,9 +9,6 @@ ghost use Rattle.model.specs.Answer.{answerSize};
 ghost use Rattle.text_digits.specs.Digits.{decimal, hex};
 ghost use Rattle.text_digits.specs.Output.{Adds, mostAtOnce};
 ghost use Rattle.text_output.specs.Printout.{line, refusal, statusLines, countLines, commandLines, printoutOf};
-
-// The bytes of an answer.
-const ANSWER: usize = 8;
 
 // A line with a number.
 fn number_line(out: &mut [u8], at: usize, key: &[u8], n: usize) -> usize
@@ -37,8 +35,8 @@ fn status_lines(out: &mut [u8], at: usize, answers: &[u8], i: usize) -> usize
     requires { ⌜ i * answerSize + answerSize ≤ length (now answers) ⌝ }
     ensures { λ r. ⌜ Adds (now (out .entry)) at (statusLines (now (answers .entry)) i) r (now (out .exit)) ⌝ }
 {
-    let status = [answers[i * ANSWER]];
-    let channel = [answers[i * ANSWER + 1]];
+    let status = [answers[i * sizes::ANSWER]];
+    let channel = [answers[i * sizes::ANSWER + 1]];
     let numbered = number_line(out, at, b"command=", i + 1);
     let shown = bytes_line(out, numbered, b"status=", &status);
     bytes_line(out, shown, b"channel=", &channel)
@@ -49,9 +47,9 @@ fn count_lines(out: &mut [u8], at: usize, answers: &[u8], i: usize) -> usize
     requires { ⌜ i * answerSize + answerSize ≤ length (now answers) ⌝ }
     ensures { λ r. ⌜ Adds (now (out .entry)) at (countLines (now (answers .entry)) i) r (now (out .exit)) ⌝ }
 {
-    let residual = numbers::be2(answers, i * ANSWER + 2);
-    let cause = numbers::wide(answers[i * ANSWER + 4]);
-    let blocks = numbers::be2(answers, i * ANSWER + 6);
+    let residual = numbers::be2(answers, i * sizes::ANSWER + 2);
+    let cause = numbers::wide(answers[i * sizes::ANSWER + 4]);
+    let blocks = numbers::be2(answers, i * sizes::ANSWER + 6);
     let left = number_line(out, at, b"residual=", residual);
     let why = number_line(out, left, b"why=", cause);
     number_line(out, why, b"blocks=", blocks)
