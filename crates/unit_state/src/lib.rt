@@ -12,12 +12,12 @@ ghost use Rattle.unit_state.specs.Standing.{started, wentOn, withExtent,
 
 // `kept`: the pending sense is still what the chain found; else there is none.
 pub struct Running {
-    pub extent: Extent,
-    pub located: Located,
-    pub counts: Counts,
-    pub before: Before,
-    pub kept: bool,
     pub defined: bool,
+    pub kept: bool,
+    pub before: Before,
+    pub located: Located,
+    pub extent: Extent,
+    pub counts: Counts,
 }
 
 // No extent, and no command before: nothing is kept from an earlier chain but the record.
