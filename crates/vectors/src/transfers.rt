@@ -12,7 +12,7 @@ use crate::ccws::LOCATE;
 use crate::ccws::LOCATE_2;
 use crate::ccws::NOOP;
 
-pub const VECTORS: [u64; 211] = [
+pub const VECTORS: [u64; 229] = [
     // 6.1 READ IPL first in its chain: block 0, all 512 bytes. One block read and one access
     // movement are counted.
     0x00_0008_0008_0221_03,
@@ -269,5 +269,28 @@ pub const VECTORS: [u64; 211] = [
     0x06_00_0001_00000007,
     0x06_00_0001_00000000,
     0xD_0018_0008,
+    0xC_0000_0000,
+    // 6.27 Read-only, WRITE after a read LOCATE: 42, and not 38, for the located operation does not
+    // write. Sense is 80 00 with message 2, and not 80 02: as in 6.16, no write was located. The
+    // LOCATE's movement is counted, and no block; the block stays.
+    0x02_0018_0018_0220_32,
+    DEFINE,
+    LOCATE,
+    LAST_WRITE,
+    0xC0_00_0000_00000000,
+    0x00000000_00000007,
+    0x06_00_0001_00000003,
+    0xB_0600_0002,
+    0xC_0000_0000,
+    // 6.28 Read-only, READ after the same LOCATE: accepted. Block 3, one block read and one access
+    // movement.
+    0x02_0018_0018_0220_32,
+    DEFINE,
+    LOCATE,
+    LAST_READ,
+    0xC0_00_0000_00000000,
+    0x00000000_00000007,
+    0x06_00_0001_00000003,
+    0xD_0020_0002,
     0xC_0000_0000,
 ];
