@@ -12,7 +12,7 @@ returns c = rw (← (c .before .before .before .before .before .wrong-line .ensu
 
 returns-2 : tie.Need-returns-2
 unfolding exercise pick
-returns-2 c = rw (← (c .before .before .before .before .before .before .before .before .before .before .before .before .before .wrong-line .ensures), eq-eqb _ _ (c .before .before .before .before .before .before .before .before .before .before .before .before .if1 .left)) (c .before .before .before .before .before .before .run_input .ensures)
+returns-2 c = rw (← (c .before .before .before .before .before .before .before .before .before .before .before .before .before .wrong-line .ensures), eq-eqb _ _ (c .before .before .before .before .before .before .before .before .before .before .before .before .if1 .left)) (c .before .before .before .before .before .before .run-input .ensures)
 
 pub exercise-spec : {M : Type 1} → statement M
 exercise-spec =
