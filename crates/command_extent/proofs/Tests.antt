@@ -2,11 +2,9 @@
 use Prim.Native.Nat.{ℕ, _/_, _≤_, _<_}
 use mathlib.Core.Path.{_≡_, refl, sym, subst}
 use mathlib.Core.Bool.{Bool, true, false, not, _&&_}
-use mathlib.Core.List.{[], _∷_}
-use lib.Bits.{bitAnd}
 use lib.Dec.{T, ltb, leb, eqb, lit≤}
 use borrow.Author.Tests.{ltb-true, ltb-false, lt-leb, le-leb}
-use Rattle.numbers.specs.Bits.{bit, anyBit}
+use Rattle.numbers.specs.Bits.{bit}
 use Rattle.numbers.proofs.Bits.{same-on-bytes}
 
 -- sixteen bytes reach as far
@@ -25,12 +23,3 @@ not-below a b = go (ltb a b) refl
 pub mask-ten : (b : ℕ) → b < 256 → (bit b 0 && not (bit b 1)) ≡ eqb (b / 64) 2
 unfolding bit
 mask-ten b h = same-on-bytes (λ (m : ℕ). bit m 0 && not (bit m 1)) (λ (m : ℕ). eqb (m / 64) 2) refl b h
-
--- one of mask bits 2, 3, 6, 7
-pub mask-spare : (b : ℕ) → b < 256 → anyBit b (2 ∷ 3 ∷ 6 ∷ 7 ∷ []) ≡ not (eqb (bitAnd b 0x33) 0)
-unfolding bit anyBit
-mask-spare b h = same-on-bytes (λ (m : ℕ). anyBit m (2 ∷ 3 ∷ 6 ∷ 7 ∷ [])) (λ (m : ℕ). not (eqb (bitAnd m 0x33) 0)) refl b h
-
-pub mask-maintenance : (b : ℕ) → b < 256 → bit b 4 ≡ not (eqb (bitAnd b 0x08) 0)
-unfolding bit
-mask-maintenance b h = same-on-bytes (λ (m : ℕ). bit m 4) (λ (m : ℕ). not (eqb (bitAnd m 0x08) 0)) refl b h

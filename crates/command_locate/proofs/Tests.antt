@@ -8,9 +8,7 @@ use lib.Dec.{T, ltb, leb, eqb, lit≤}
 use lib.ListN.{getD, List·getD-eq-default}
 use native.Mathlib.Omega.{arith}
 use borrow.Author.Tests.{ltb-true, eq-eqb, ne-eqb}
-use Rattle.numbers.specs.Bits.{bit, anyBit}
 use Rattle.numbers.proofs.Tables.{values, same-upto}
-use Rattle.numbers.proofs.Bits.{same-on-bytes}
 use Rattle.numbers.specs.Choice.{oneOf}
 use Rattle.model.specs.Parameters.{operations, writes, forbidden}
 use Rattle.model.proofs.Steps.{one-of, none-of}
@@ -18,11 +16,6 @@ use Rattle.model.proofs.Steps.{one-of, none-of}
 -- eight bytes reach as far
 pub eight : {k n : ℕ} → n ≡ 8 → T (leb k 8) → k ≤ n
 eight {k} e t = subst (λ (m : ℕ). k ≤ m) (sym e) (lit≤ t)
-
--- one of modifier bits 0 to 2
-pub modifier-reserved : (b : ℕ) → b < 256 → anyBit b (0 ∷ 1 ∷ 2 ∷ []) ≡ not (eqb (bitAnd b 0xE0) 0)
-unfolding bit anyBit
-modifier-reserved b h = same-on-bytes (λ (m : ℕ). anyBit m (0 ∷ 1 ∷ 2 ∷ [])) (λ (m : ℕ). not (eqb (bitAnd m 0xE0) 0)) refl b h
 
 -- the code of an operation is below 7
 pub operation-low : (o : ℕ) → oneOf operations o ≡ true → o < 7
@@ -42,22 +35,25 @@ pub inhibited-last : (r o : ℕ) → (r ≡ 0 → ⊥) → (o ≡ 1 → ⊥) →
 unfolding oneOf
 inhibited-last r o h a b = rw (ne-eqb r 0 h, ne-eqb o 1 a, ne-eqb o 5 b)
 
--- the code's table of what is forbidden: a byte by mask bits 0-1, in it a bit by operation
-abbrev table : List ℕ
-table = 0x10 ∷ 0x32 ∷ 0x76 ∷ 0x00 ∷ []
-
-abbrev marked : ℕ → ℕ → Bool
-marked k o = not (eqb (bitAnd (getD table k 0 / 2 ^ o) 1) 0)
-
 abbrev listed : ℕ → ℕ → Bool
 listed k o = oneOf (getD forbidden k []) o
 
-pub table-bytes : (k : ℕ) → k < 4 → getD table k 0 < 256
-table-bytes k h = ltb-true _ _ (same-upto (λ (k : ℕ). ltb (getD table k 0) 256) (λ (k : ℕ). true) 4 refl k h)
+-- a table of what is forbidden, whatever bytes the code has in it: one by mask bits 0-1, in it a bit by operation
+module _ (a b c d : ℕ) where
+  abbrev byte : ℕ → ℕ
+  byte k = getD (a ∷ b ∷ c ∷ d ∷ []) k 0
 
-pub forbidden-at : (k o : ℕ) → k < 4 → o < 7 → marked k o ≡ listed k o
-unfolding oneOf
-forbidden-at k o h g = same-upto (marked k) (listed k) 7 (same-upto (λ (k : ℕ). values (marked k) 0 7) (λ (k : ℕ). values (listed k) 0 7) 4 refl k h) o g
+  abbrev marked : ℕ → ℕ → Bool
+  marked k o = not (eqb (bitAnd (byte k / 2 ^ o) 1) 0)
+
+  pub table-bytes : (k : ℕ) → values (λ (k : ℕ). ltb (byte k) 256) 0 4 ≡ values (λ (k : ℕ). true) 0 4 → k < 4 → byte k < 256
+  table-bytes k e h = ltb-true _ _ (same-upto (λ (k : ℕ). ltb (byte k) 256) (λ (k : ℕ). true) 4 e k h)
+
+  -- it is the definition's, where antt finds it so at each place
+  pub forbidden-at : (k o : ℕ) → values (λ (k : ℕ). values (marked k) 0 7) 0 4 ≡ values (λ (k : ℕ). values (listed k) 0 7) 0 4
+      → k < 4 → o < 7 → marked k o ≡ listed k o
+  unfolding oneOf
+  forbidden-at k o e h g = same-upto (marked k) (listed k) 7 (same-upto (λ (k : ℕ). values (marked k) 0 7) (λ (k : ℕ). values (listed k) 0 7) 4 e k h) o g
 
 -- past it nothing is
 pub forbidden-past : (k o : ℕ) → 4 ≤ k → listed k o ≡ false

@@ -1,5 +1,7 @@
 -- Demand 3, the relation: what two runs of one chain have in common between any two commands, where a data set was moved.
 --     Place     where the parameters stand, the two extents, and the two stores as they were lent
+--     SoundPlace
+--               what holds of a place throughout
 --     States    the states are equal but for the extent's offset
 --     Mains     main storage is equal but for the offset's four bytes, and the parameters are still there
 --     Stores    the extent's blocks are equal, and no block outside it has changed
@@ -45,7 +47,7 @@ pub record Place : Type 0 where
   pub store′ : List ℕ
 
 -- what holds of a place throughout
-pub record Sound (dev : Device) (F : Place) : Type 0 where
+pub record SoundPlace (dev : Device) (F : Place) : Type 0 where
   pub mask : F .here .mask ≡ F .there .mask
   pub first : F .here .first ≡ F .there .first
   pub last : F .here .last ≡ F .there .last
@@ -150,7 +152,7 @@ kept-write dev e l store x bytes k h o n d =
     let b = h .base 0 in
     block-kept dev x _ (l .blocks) bytes n (h .fits) (⊎-elim (λ y. inl (omega (arith, b))) (λ y. inr (omega (arith, b, h .within))) d) ∙ o n d
 
-module _ (dev : Device) (F : Place) (k : Sound dev F) (l : Located) (x y : List ℕ) (h : InExtent (F .here) l) (g : Stores dev F x y) where
+module _ (dev : Device) (F : Place) (k : SoundPlace dev F) (l : Located) (x y : List ℕ) (h : InExtent (F .here) l) (g : Stores dev F x y) where
   h′ : InExtent (F .there) l
   h′ = record { some = h .some; from-first = rw (← (k .first)) (h .from-first); to-last = rw (← (k .last)) (h .to-last) }
 

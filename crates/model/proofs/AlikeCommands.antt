@@ -33,7 +33,7 @@ use Rattle.model.proofs.Verdicts.{never-given, failed-upto}
 use Rattle.model.proofs.Leaving.{leaves-both}
 use Rattle.model.proofs.Steps.{Admitted, accepted-cases, past-channel, own-cases, accepted-no-operation, accepted-define, accepted-locate, accepted-read, accepted-write, accepted-sense, accepted-sense-type, accepted-read-log}
 use Rattle.model.proofs.Safety.{after-locate, locate-ok, safe-seen}
-use Rattle.model.proofs.Alike.{Place, Sound, States, Mains, Stores, Outs, states-after, mains-put, stores-read, stores-write}
+use Rattle.model.proofs.Alike.{Place, SoundPlace, States, Mains, Stores, Outs, states-after, mains-put, stores-read, stores-write}
 use Rattle.model.proofs.AlikeVerdicts.{Fits, area, fetched-same, extent-here, extent-there, verdict-same}
 
 -- a refused command
@@ -71,7 +71,7 @@ module _ (dev : Device) (F : Place) (c : Ccw) (f : Fits F c) (s t : State) (r : 
   unfolding noOperation
   no-operation-alike = record { dones = record { cause = refl; moved = refl; can = refl; blocks = refl; states = states-after F s t _ _ _ _ (r .unit) refl r }; mains = g; stores = h }
 
-  define-alike : Sound dev F → c .command ≡ DEFINE-EXTENT → Outs dev F (defineExtent c s m x) (defineExtent c t m′ x′)
+  define-alike : SoundPlace dev F → c .command ≡ DEFINE-EXTENT → Outs dev F (defineExtent c s m x) (defineExtent c t m′ x′)
   unfolding defineExtent defineDone extentSet
   define-alike k e =
       let a = extent-here F c m m′ f g e in
@@ -141,7 +141,7 @@ module _ (dev : Device) (F : Place) (c : Ccw) (f : Fits F c) (s t : State) (r : 
 
   -- commands that move blocks
 
-  module _ (k : Sound dev F) (w : Safe s (blockCount dev x)) (l : a-locate (s .before) ≡ true) where
+  module _ (k : SoundPlace dev F) (w : Safe s (blockCount dev x)) (l : a-locate (s .before) ≡ true) where
     -- the LOCATE before lies in the extent, in both runs
     here : s .extent ≡ F .here
     here = r .set (w .located l .0) .0
@@ -193,7 +193,7 @@ states-seen : (F : Place) (c : Ccw) (s t : State) → States F s t → States F 
 unfolding seen
 states-seen F c s t r = states-after F s t _ _ _ _ (rw (r .unit)) (r .before) r
 
-module _ (dev : Device) (F : Place) (k : Sound dev F) (c : Ccw) (f : Fits F c) (s t : State) (r : States F s t) (m m′ : List ℕ) (g : Mains F m m′) (x x′ : List ℕ) (h : Stores dev F x x′)
+module _ (dev : Device) (F : Place) (k : SoundPlace dev F) (c : Ccw) (f : Fits F c) (s t : State) (r : States F s t) (m m′ : List ℕ) (g : Mains F m m′) (x x′ : List ℕ) (h : Stores dev F x x′)
     (w : Safe s (blockCount dev x)) where
   accepted-alike : verdict dev c s m x ≡ 0 → Outs dev F (accepted dev c (seen c s) m x) (accepted dev c (seen c t) m′ x′)
   unfolding seen after sense senseType readLog

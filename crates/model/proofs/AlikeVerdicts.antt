@@ -27,7 +27,7 @@ use Rattle.model.specs.Moved.{Among}
 use Rattle.model.specs.Exactly.{Failed}
 use Rattle.numbers.proofs.Choice.{pick-both}
 use Rattle.model.proofs.Verdicts.{first-same}
-use Rattle.model.proofs.Alike.{parameter-same, Place, Sound, States, Mains, Stores, sides, mains-part, count-same}
+use Rattle.model.proofs.Alike.{parameter-same, Place, SoundPlace, States, Mains, Stores, sides, mains-part, count-same}
 
 pub record Fits (F : Place) (c : Ccw) : Type 0 where
   pub own : c .command ≡ DEFINE-EXTENT → c .address ≡ F .at
@@ -75,7 +75,7 @@ extent-same : (dev : Device) (n : ℕ) (p p′ : List ℕ) (e e′ : Extent) →
 unfolding extentCauses
 extent-same dev n p p′ e e′ a b mask first last reserved sizes in-here in-there = rw (a, b, in-here, in-there, mask, first, last, reserved, sizes)
 
-module _ (dev : Device) (F : Place) (k : Sound dev F) (c : Ccw) (f : Fits F c) (s t : State) (r : States F s t) (m m′ : List ℕ) (g : Mains F m m′) where
+module _ (dev : Device) (F : Place) (k : SoundPlace dev F) (c : Ccw) (f : Fits F c) (s t : State) (r : States F s t) (m m′ : List ℕ) (g : Mains F m m′) where
   define-same : (n : ℕ) → c .command ≡ DEFINE-EXTENT → n ≡ blockCount dev (F .store)
       → defineExtentCauses dev n c s (fetched c m extentLength) ≡ defineExtentCauses dev n c t (fetched c m′ extentLength)
   unfolding defineExtentCauses
@@ -115,7 +115,7 @@ some-count : (c : Ccw) (s : State) (m : List ℕ) → Failed (channelCauses c m 
 unfolding channelCauses unitCauses
 some-count c s m w = let none = eqb-false (c .count) 0 (w .1 .1 .0) in omega (arith, none)
 
-module _ (dev : Device) (F : Place) (k : Sound dev F) (c : Ccw) (f : Fits F c) (s t : State) (r : States F s t) (m m′ : List ℕ) (g : Mains F m m′) (x x′ : List ℕ) (h : Stores dev F x x′) where
+module _ (dev : Device) (F : Place) (k : SoundPlace dev F) (c : Ccw) (f : Fits F c) (s t : State) (r : States F s t) (m m′ : List ℕ) (g : Mains F m m′) (x x′ : List ℕ) (h : Stores dev F x x′) where
   own-same : 0 < c .count → firstOf (ownCauses dev c s m x) ≡ firstOf (ownCauses dev c t m′ x′)
   unfolding ownCauses
   own-same z =

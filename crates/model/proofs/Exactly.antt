@@ -56,17 +56,18 @@ module _ (dev : Device) (chain main store answers : List ℕ) where
   unfolding hostCauses callCauses
   host-once unit = refl
 
-  host-cause : (unit : List ℕ) → hostCallOf dev chain main store unit answers .result / 256 ≡ firstOf (hostCauses dev chain main store unit answers)
-  unfolding hostCallOf callOf
-  host-cause unit =
-      let w : ℕ = firstOf (hostCauses dev chain main store unit answers) in
-      let r : Called = callOf dev chain main store (recordOf unit) answers in
-      pick-ind (λ (h : Hosted). h .result / 256 ≡ w) _ _ _
-      (λ b.
-      let p = host-passed dev chain main store unit answers (eqb-true _ _ b) in
-      let few : r .reached < 256 = omega (arith, callable dev chain main store answers (p .0) .few, call-reached dev chain main store (recordOf unit) answers .1) in
-      result-reads (r .cause) (r .reached) few .0 ∙ p .0 ∙ sym (eqb-true _ _ b))
-      (λ b. result-reads w 0 (omega arith) .0)
-
+  -- the cause is read from the one number
   pub host-exactly : (unit : List ℕ) → GivenExactly (hostCauses dev chain main store unit answers) (hostCallOf dev chain main store unit answers .result / 256)
-  host-exactly unit = rw (host-cause unit) (exactly (hostCauses dev chain main store unit answers) (host-once unit))
+  unfolding hostCallOf callOf
+  host-exactly unit = rw cause (exactly (hostCauses dev chain main store unit answers) (host-once unit))
+    where
+      cause : hostCallOf dev chain main store unit answers .result / 256 ≡ firstOf (hostCauses dev chain main store unit answers)
+      cause =
+          let w : ℕ = firstOf (hostCauses dev chain main store unit answers) in
+          let r : Called = callOf dev chain main store (recordOf unit) answers in
+          pick-ind (λ (h : Hosted). h .result / 256 ≡ w) _ _ _
+          (λ b.
+          let p = host-passed dev chain main store unit answers (eqb-true _ _ b) in
+          let few : r .reached < 256 = omega (arith, callable dev chain main store answers (p .0) .few, call-reached dev chain main store (recordOf unit) answers .1) in
+          result-reads (r .cause) (r .reached) few .0 ∙ p .0 ∙ sym (eqb-true _ _ b))
+          (λ b. result-reads w 0 (omega arith) .0)

@@ -24,7 +24,7 @@ use Rattle.model.specs.Rules.{Rule, firstOf}
 use Rattle.model.specs.Lent.{fetched, delivered, blockAt, blocksFrom, blocksInto}
 use Rattle.model.specs.Parameters.{locateLength}
 use Rattle.model.specs.Causes.{channelCauses, unitCauses, extentCauses, defineExtentCauses, permissionCauses, locationCauses, locateCauses, readIplCauses, transferCauses, ownCauses, causesOf, verdict, kindOf}
-use Rattle.model.specs.Sense.{SenseRow, senseTable, rowIn, senseOf}
+use Rattle.model.specs.Sense.{CauseRow, senseTable, rowIn, senseOf}
 use Rattle.model.specs.Log.{withSense, withCounts, added3, added2, readCounted, writtenCounted, movementCounted, logOf, logReset}
 use Rattle.model.specs.Commands.{Out, noOperation, defineExtent, locate, sent, sense, senseType, readLog, begun, read, write, readIpl, refused, refusal, seen, after, extentSet, locateSet, step, defineDone, iplDone, locateDone, readDone, writeDone}
 use Rattle.model.specs.Exactly.{absent}
@@ -134,16 +134,16 @@ log-reset-record u r = counts-record u _ _ _ (record {
 
 -- the sense of a refusal
 
-small-rows : List SenseRow → Bool
+small-rows : List CauseRow → Bool
 small-rows [] = true
 small-rows (r ∷ rs) = (r .byte0 <? 256 && r .byte1 <? 256 && r .byte7 <? 256) && small-rows rs
 
-record IsRow (r : SenseRow) : Type 0 where
+record IsRow (r : CauseRow) : Type 0 where
   byte0 : r .byte0 < 256
   byte1 : r .byte1 < 256
   byte7 : r .byte7 < 256
 
-row-in : (rs : List SenseRow) → small-rows rs ≡ true → (w : ℕ) → IsRow (rowIn rs w)
+row-in : (rs : List CauseRow) → small-rows rs ≡ true → (w : ℕ) → IsRow (rowIn rs w)
 unfolding rowIn small-rows
 row-in [] e w = record { byte0 = omega arith; byte1 = omega arith; byte7 = omega arith }
 row-in (r ∷ rs) e w =

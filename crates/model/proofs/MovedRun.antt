@@ -33,7 +33,7 @@ use Rattle.numbers.proofs.Choice.{pick-both}
 use Rattle.numbers.proofs.Joined.{both-true}
 use Rattle.model.proofs.Safety.{safe-start, step-safe}
 use Rattle.model.proofs.Hosts.{host-is-call, host-no-record}
-use Rattle.model.proofs.Alike.{parameter-same, Place, Sound, States, Mains, Stores, Dones, Outs, count-same}
+use Rattle.model.proofs.Alike.{parameter-same, Place, SoundPlace, States, Mains, Stores, Dones, Outs, count-same}
 use Rattle.model.proofs.AlikeVerdicts.{Fits}
 use Rattle.model.proofs.AlikeCommands.{step-alike}
 
@@ -66,7 +66,7 @@ goes-chained c d b = both-true (d .cause =? 0 && channelStatus c d =? 0) (flag c
 
 -- the chain
 
-module _ (dev : Device) (F : Place) (k : Sound dev F) (chain : List ℕ) (fits : (i : ℕ) → InChain chain i → Fits F (ccwAt chain i)) where
+module _ (dev : Device) (F : Place) (k : SoundPlace dev F) (chain : List ℕ) (fits : (i : ℕ) → InChain chain i → Fits F (ccwAt chain i)) where
   at-alike : (i : ℕ) (y z : System) → InChain chain i → Alike dev F y z → Outs dev F (stepAt dev chain i y) (stepAt dev chain i z)
   unfolding stepAt
   at-alike i y z c a = step-alike dev F k (ccwAt chain i) (fits i c) _ _ (a .states) _ _ (a .mains) _ _ (a .stores) (a .safe)
@@ -121,7 +121,7 @@ module _ (dev : Device) (chain : List ℕ) (d : ℕ) (main main′ store store�
   here : Place
   here = place (ccwAt chain d) main main′ store store′
 
-  sound : Sound dev here
+  sound : SoundPlace dev here
   unfolding here place extentIn
   sound =
       let far : (i : ℕ) → 8 ≤ i → Among 4 4 i → ⊥ = λ i b k. omega (arith, k) in

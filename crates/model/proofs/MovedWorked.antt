@@ -79,27 +79,27 @@ moved-pair = record {
 }
 
 -- what is looked at afterwards
-record Seen : Type 0 where
+record Afterwards : Type 0 where
   pub answers : List ℕ
   pub read : List ℕ
   pub store : List ℕ
 
-abbrev seen : Called → Seen
-seen r = record { answers = r .answers; read = drop 544 (r .main); store = r .store }
+abbrev afterwards : Called → Afterwards
+afterwards r = record { answers = r .answers; read = drop 544 (r .main); store = r .store }
 
 -- five commands, all accepted; the WRITE moved one block, the READ two
-abbrev ended : ℕ → List ℕ
-ended moved = 0x0C ∷ 0 ∷ 0 ∷ 0 ∷ 0 ∷ 0 ∷ 0 ∷ moved ∷ []
+abbrev ended-answer : ℕ → List ℕ
+ended-answer moved = 0x0C ∷ 0 ∷ 0 ∷ 0 ∷ 0 ∷ 0 ∷ 0 ∷ moved ∷ []
 
-abbrev expected : List ℕ → Seen
-expected store = record { answers = ended 0 ++ ended 0 ++ ended 1 ++ ended 0 ++ ended 2; read = blocks 1 0xAA ++ blocks 1 0x52; store = store }
+abbrev expected : List ℕ → Afterwards
+expected store = record { answers = ended-answer 0 ++ ended-answer 0 ++ ended-answer 1 ++ ended-answer 0 ++ ended-answer 2; read = blocks 1 0xAA ++ blocks 1 0x52; store = store }
 
-pub moved-worked : (seen (ran (main 1 2) (stores 1 0x51 5)) ≡ expected (stores 1 0xAA 5)) × (seen (ran (main 5 2) (stores 5 0x51 1)) ≡ expected (stores 5 0xAA 1))
+pub moved-worked : (afterwards (ran (main 1 2) (stores 1 0x51 5)) ≡ expected (stores 1 0xAA 5)) × (afterwards (ran (main 5 2) (stores 5 0x51 1)) ≡ expected (stores 5 0xAA 1))
 unfolding opened
 moved-worked = (refl, refl)
 
 -- the second LOCATE asks for one block, so the second block is not read
-pub recount-differs : seen (ran (main 1 1) (stores 1 0x51 5)) .read ≡ seen (ran (main 1 2) (stores 1 0x51 5)) .read → ⊥
+pub recount-differs : afterwards (ran (main 1 1) (stores 1 0x51 5)) .read ≡ afterwards (ran (main 1 2) (stores 1 0x51 5)) .read → ⊥
 unfolding opened
 recount-differs e =
     let byte : _≡_ {A = ℕ} 0xFF 0x52 = ap (λ (l : List ℕ). getD l 512 0) e in

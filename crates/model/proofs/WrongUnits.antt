@@ -81,8 +81,8 @@ wrongs =
 
 -- told apart: all that a call gives, as one list of numbers
 
-seen : Called → List ℕ
-seen r = r .cause ∷ r .reached ∷ recordBytes (r .unit) ++ r .main ++ r .store ++ r .answers
+allGiven : Called → List ℕ
+allGiven r = r .cause ∷ r .reached ∷ recordBytes (r .unit) ++ r .main ++ r .store ++ r .answers
 
 same : List ℕ → List ℕ → Bool
 same [] [] = true
@@ -101,17 +101,17 @@ Differ (w ∷ ws) = (w .unit (w .input) ≡ theUnit (w .input) → ⊥) × Diffe
 
 apart : List Wrong → Bool
 apart [] = true
-apart (w ∷ ws) = not (same (seen (w .unit (w .input))) (seen (theUnit (w .input)))) && apart ws
+apart (w ∷ ws) = not (same (allGiven (w .unit (w .input))) (allGiven (theUnit (w .input)))) && apart ws
 
 apart-differ : (ws : List Wrong) → apart ws ≡ true → Differ ws
 unfolding apart
 apart-differ [] e = tt
 apart-differ (w ∷ ws) e =
     let p = both-true _ _ e in (
-      (λ z. false≢true (sym (not-true _ (p .0)) ∙ ap (λ (r : Called). same (seen r) (seen (theUnit (w .input)))) z ∙ same-self (seen (theUnit (w .input))))),
+      (λ z. false≢true (sym (not-true _ (p .0)) ∙ ap (λ (r : Called). same (allGiven r) (allGiven (theUnit (w .input)))) z ∙ same-self (allGiven (theUnit (w .input))))),
       apart-differ ws (p .1),
     )
 
 pub wrong-units-differ : Differ wrongs
-unfolding opened apart same seen wrongs refusesAll marked withAnswers endsAll idle firstOnly inventsBlocks inventsCounts
+unfolding opened apart same allGiven wrongs refusesAll marked withAnswers endsAll idle firstOnly inventsBlocks inventsCounts
 wrong-units-differ = apart-differ wrongs refl

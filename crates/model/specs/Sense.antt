@@ -8,17 +8,17 @@ use Rattle.slices.specs.Parts.{zeros, put}
 use Rattle.model.specs.Names.{format-at, parameters-at}
 use Rattle.numbers.specs.Choice.{_=?_, pick}
 
-pub record SenseRow : Type 0 where
+pub record CauseRow : Type 0 where
   pub cause : ℕ
   pub byte0 : ℕ
   pub byte1 : ℕ
   pub byte7 : ℕ
 
-abbrev row : ℕ → ℕ → ℕ → ℕ → SenseRow
+abbrev row : ℕ → ℕ → ℕ → ℕ → CauseRow
 row cause byte0 byte1 byte7 = record { cause = cause; byte0 = byte0; byte1 = byte1; byte7 = byte7 }
 
 -- cause, byte 0, byte 1, byte 7 (format and message). 002 overrules 01 at 37 (5.1) and at 39 (5.1, 5.2)
-abbrev pub senseTable : List SenseRow
+abbrev pub senseTable : List CauseRow
 senseTable =
     row 20 0x80 0x00 0x03
     ∷ row 21 0x80 0x00 0x02
@@ -45,7 +45,7 @@ senseTable =
     ∷ []
 
 -- the row of a cause; zeros for a cause that has none
-unfoldable pub rowIn : List SenseRow → ℕ → SenseRow
+unfoldable pub rowIn : List CauseRow → ℕ → CauseRow
 rowIn [] cause = row cause 0 0 0
 rowIn (r ∷ rs) cause = pick (r .cause =? cause) r (rowIn rs cause)
 

@@ -29,11 +29,11 @@ unfolding rowIn pick
 row-before cause h = same-upto (λ (k : ℕ). record { 0 = 0; 1 = 0; 2 = 0 }) rowOf 20 refl cause h
 
 -- each cause of these rows is below n
-below : ℕ → List table.SenseRow → Bool
+below : ℕ → List table.CauseRow → Bool
 below n [] = true
 below n (r ∷ rs) = r .cause <? n && below n rs
 
-past : (rows : List table.SenseRow) (n cause : ℕ) → below n rows ≡ true → n ≤ cause → rowIn rows cause ≡ record { cause = cause; byte0 = 0; byte1 = 0; byte7 = 0 }
+past : (rows : List table.CauseRow) (n cause : ℕ) → below n rows ≡ true → n ≤ cause → rowIn rows cause ≡ record { cause = cause; byte0 = 0; byte1 = 0; byte7 = 0 }
 unfolding rowIn pick below
 past [] n cause b h = refl
 past (r ∷ rs) n cause b h =

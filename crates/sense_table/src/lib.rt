@@ -23,7 +23,7 @@ const SHORT_ARGUMENT: SenseRow = SenseRow(0x80, 0x00, 0x03);
 
 const INVALID_ARGUMENT: SenseRow = SenseRow(0x80, 0x00, 0x04);
 
-const BLOCK_SIZE: SenseRow = SenseRow(0x80, 0x40, 0x04);
+const SIZE_EXCEPTION: SenseRow = SenseRow(0x80, 0x40, 0x04);
 
 const FILE_PROTECTED: SenseRow = SenseRow(0x80, 0x04, 0x04);
 
@@ -39,12 +39,12 @@ const FIRST: u8 = 20;
 const LAST: u8 = 44;
 
 // The row of each cause from the first on.
-const SENSE: [SenseRow; 25] = [
+const SENSE_ROWS: [SenseRow; 25] = [
     SHORT_ARGUMENT, // 20
     INVALID_SEQUENCE, // 21
     INVALID_ARGUMENT, // 22
     INVALID_ARGUMENT, // 23
-    BLOCK_SIZE, // 24
+    SIZE_EXCEPTION, // 24
     INVALID_ARGUMENT, // 25
     INVALID_ARGUMENT, // 26
     NO_SENSE, // 27
@@ -77,7 +77,7 @@ fn row_of(cause: u8) -> SenseRow
     if LAST < cause {
         return NO_SENSE;
     }
-    SENSE[(cause - FIRST) as usize]
+    SENSE_ROWS[(cause - FIRST) as usize]
 }
 
 // The 24 sense bytes of a cause. `parameters` are the LOCATE's, which 39 alone shows.

@@ -26,7 +26,7 @@ use Rattle.text_output.proofs.Sizes.{mostPrinted, printout-within, refusal-with
 use Rattle.text_input.specs.Format.{lines, wrongLine, Exercise, exerciseIn}
 use Rattle.text_input.proofs.Sizes.{wrong-few, settings-few, storage-bytes, storage-few, chain-bytes}
 use Rattle.text_input.proofs.Rights.{few-blocks}
-use Rattle.text_exercise.specs.Exercise.{device, performed, exercise}
+use Rattle.text_exercise.specs.Exercise.{device, exercised, exercise}
 
 block-bytes : (n b : ℕ) → b < 256 → AreBytes (replicate n b)
 block-bytes zero b h = bytes-nil
@@ -64,9 +64,9 @@ small-cause chain main store u answers =
     P : ℕ → Type 0
     P n = n < sixDigits
 
-performed-length : (input : List ℕ) → wrongLine input ≡ 0 → length (printout (performed (exerciseIn (lines input)))) ≤ mostPrinted
-unfolding performed
-performed-length input e =
+exercised-length : (input : List ℕ) → wrongLine input ≡ 0 → length (printout (exercised (exerciseIn (lines input)))) ≤ mostPrinted
+unfolding exercised
+exercised-length input e =
     let x : Exercise = exerciseIn (lines input) in
     let u : Record = newRecord (x .settings .ready) (x .settings .readonly) in
     let store : List ℕ = device (x .settings .blocks) in
@@ -79,4 +79,4 @@ performed-length input e =
 pub printout-fits : (input : List ℕ) → length (exercise input) ≤ mostPrinted
 unfolding exercise
 printout-fits input =
-    pick-ind (λ (l : List ℕ). length l ≤ mostPrinted) (eqb (wrongLine input) 0) _ _ (λ e. performed-length input (eqb-true _ _ e)) (λ _. omega (arith, refusal-within (wrongLine input) (omega (arith, wrong-few input))))
+    pick-ind (λ (l : List ℕ). length l ≤ mostPrinted) (eqb (wrongLine input) 0) _ _ (λ e. exercised-length input (eqb-true _ _ e)) (λ _. omega (arith, refusal-within (wrongLine input) (omega (arith, wrong-few input))))

@@ -1,7 +1,7 @@
 -- The program `exercise` as a function of its input (01, Each side of the lines).
 --     device      "Block i starts filled with byte i"
 --     mostStore   the bytes of the largest device
---     performed   the call that an exercise asks for, on a new unit; its answers start as zeros
+--     exercised   the call that an exercise asks for, on a new unit; its answers start as zeros
 --     exercise    what is printed, for every input
 -- Assumes nothing.
 use Prim.Native.Nat.{ℕ, zero, suc, _*_}
@@ -21,12 +21,12 @@ device (suc n) = device n ++ replicate (classA .block) n
 abbrev pub mostStore : ℕ
 mostStore = mostBlocks * classA .block
 
-unfoldable pub performed : Exercise → Called
-performed e =
+unfoldable pub exercised : Exercise → Called
+exercised e =
     let s = e .settings in
     call (e .chain) (e .storage) (device (s .blocks)) (newRecord (s .ready) (s .readonly)) (zeros (length (e .chain)))
 
 unfoldable pub exercise : List ℕ → List ℕ
 exercise input =
     let wrong = wrongLine input in
-    pick (wrong =? 0) (printout (performed (exerciseIn (lines input)))) (refusal wrong)
+    pick (wrong =? 0) (printout (exercised (exerciseIn (lines input)))) (refusal wrong)

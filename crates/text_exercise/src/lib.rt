@@ -19,7 +19,7 @@ ghost use Rattle.model.specs.Chain.{Called, call, classA};
 ghost use Rattle.text_digits.specs.Output.{Adds};
 ghost use Rattle.text_output.specs.Printout.{printout};
 ghost use Rattle.text_input.specs.Format.{mostBlocks, mostStorage, mostChain, lines, wrongLine, Exercise, exerciseIn};
-ghost use Rattle.text_exercise.specs.Exercise.{device, mostStore, performed, exercise};
+ghost use Rattle.text_exercise.specs.Exercise.{device, mostStore, exercised, exercise};
 
 // The bytes of the largest store.
 const MOST_STORE: usize = MOST_BLOCKS * sizes::BLOCK;
@@ -74,7 +74,7 @@ fn run_on_device(
     answers: &mut [u8],
 ) -> usize
     requires { ⌜ (s .blocks ≤ mostBlocks) × (length (now store) ≡ mostStore) × (length (now answers) ≡ length (now chain)) ⌝ }
-    ensures { λ r. ⌜ Adds (now (output .entry)) 0 (printout (performed (record { settings = s; storage = now (main .entry); chain = now (chain .entry) }))) r (now (output .exit)) ⌝ }
+    ensures { λ r. ⌜ Adds (now (output .entry)) 0 (printout (exercised (record { settings = s; storage = now (main .entry); chain = now (chain .entry) }))) r (now (output .exit)) ⌝ }
 {
     let size = s.blocks * sizes::BLOCK;
     number_blocks(&mut store[..size], s.blocks);
@@ -83,7 +83,7 @@ fn run_on_device(
 }
 
 // An input with no wrong line, in buffers that hold the most that one can ask for.
-fn perform(
+fn run_input(
     input: &[u8],
     output: &mut [u8],
     chain: &mut [u8],
@@ -92,7 +92,7 @@ fn perform(
     answers: &mut [u8],
 ) -> usize
     requires { ⌜ (wrongLine (now input) ≡ 0) × (length (now chain) ≡ mostChain) × (length (now main) ≡ mostStorage) × (length (now store) ≡ mostStore) × (length (now answers) ≡ mostChain) ⌝ }
-    ensures { λ r. ⌜ Adds (now (output .entry)) 0 (printout (performed (exerciseIn (lines (now (input .entry)))))) r (now (output .exit)) ⌝ }
+    ensures { λ r. ⌜ Adds (now (output .entry)) 0 (printout (exercised (exerciseIn (lines (now (input .entry)))))) r (now (output .exit)) ⌝ }
 {
     let s = settings_in(input);
     let n = chain_in(input, chain);
@@ -119,7 +119,7 @@ pub fn exercise(input: &[u8], output: &mut [u8]) -> usize
     let mut main = [0u8; MOST_STORAGE];
     let mut store = [0u8; MOST_STORE];
     let mut answers = [0u8; MOST_CHAIN];
-    perform(
+    run_input(
         input,
         output,
         &mut chain,

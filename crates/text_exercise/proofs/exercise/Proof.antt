@@ -12,7 +12,7 @@ returns c = rw (← (c .before .before .before .before .before .wrong-line .ensu
 
 returns-2 : tie.Need-returns-2
 unfolding exercise pick
-returns-2 c = rw (← (c .before .before .before .before .before .before .before .before .before .before .before .before .before .wrong-line .ensures), eq-eqb _ _ (c .before .before .before .before .before .before .before .before .before .before .before .before .if1 .left)) (c .before .before .before .before .before .before .perform .ensures)
+returns-2 c = rw (← (c .before .before .before .before .before .before .before .before .before .before .before .before .before .wrong-line .ensures), eq-eqb _ _ (c .before .before .before .before .before .before .before .before .before .before .before .before .if1 .left)) (c .before .before .before .before .before .before .run-input .ensures)
 
 pub exercise-spec : {M : Type 1} → statement M
 exercise-spec =
@@ -22,10 +22,10 @@ exercise-spec =
     (search needs)  -- refuse-requires
     (search needs)  -- same-length
     returns
-    (search needs)  -- slice-aggregate-perform
-    (search needs)  -- slice-aggregate-perform-2
-    (search needs)  -- slice-aggregate-perform-3
-    (search needs)  -- slice-aggregate-perform-4
-    (search needs)  -- perform-requires
+    (search needs)  -- slice-aggregate-run-input
+    (search needs)  -- slice-aggregate-run-input-2
+    (search needs)  -- slice-aggregate-run-input-3
+    (search needs)  -- slice-aggregate-run-input-4
+    (search needs)  -- run-input-requires
     (search needs)  -- same-length-2
     returns-2)

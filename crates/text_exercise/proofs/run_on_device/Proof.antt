@@ -5,7 +5,7 @@ use mathlib.Core.Path.{_∙_, sym}
 use lib.ListN.{drop}
 use lib.Seq.{length-take-le, take-at}
 use Rattle.model.specs.Chain.{classA}
-use Rattle.text_exercise.proofs.Runs.{performed-is}
+use Rattle.text_exercise.proofs.Runs.{exercised-is}
 use borrow.Author.Needs.{needs}
 use Rattle.text_exercise.proofs.run_on_device.Statement.{statement}
 use Rattle.text_exercise.proofs.run_on_device.Tie as tie
@@ -23,7 +23,7 @@ returns : tie.Need-returns
 returns c =
     let a = c .before .before .before .before .before .before .before .before .before .before .before .before .before .before .before .before .before .before .before .before .before .before .before .before .args in
     let kept = c .before .before .before .before .before .before .before .before .before .before .before .before .before .before .before .before .number-blocks .kept .0 ∙ length-take-le (a .s .blocks * classA .block) (a .store .now) (omega (arith, c .before .before .before .before .before .before .before .before .before .before .before .before .before .before .before .before .before .before .before .before .before .before .before .before .pre)) in
-    rw (performed-is (a .s) (a .chain .now) (a .main .now) _ _ (take-at _ (drop (a .s .blocks * classA .block) (a .store .now)) _ kept ∙ c .before .before .before .before .before .before .before .before .before .before .before .before .before .before .before .before .number-blocks .ensures) (c .before .before .before .before .before .before .before .before .before .before .before .before .before .new-record .ensures)) (c .before .before .before .before .before .before .before .before .run .ensures)
+    rw (exercised-is (a .s) (a .chain .now) (a .main .now) _ _ (take-at _ (drop (a .s .blocks * classA .block) (a .store .now)) _ kept ∙ c .before .before .before .before .before .before .before .before .before .before .before .before .before .before .before .before .number-blocks .ensures) (c .before .before .before .before .before .before .before .before .before .before .before .before .before .new-record .ensures)) (c .before .before .before .before .before .before .before .before .run .ensures)
 
 pub run-on-device-spec : {M : Type 1} → statement M
 run-on-device-spec =

@@ -1,10 +1,8 @@
--- `no_command` meets its contract. Assumes nothing.
+-- `no_command` meets its contract: the mask and the rule agree on all 256 bytes. Assumes nothing.
 use mathlib.Core.Path.{refl}
 use Prim.Native.Nat.{ℕ, _%_}
 use mathlib.Core.List.{[], _∷_}
-use lib.Bits.{bitAnd}
-use lib.Dec.{eqb}
-use Rattle.numbers.proofs.Bits.{same-on-bytes}
+use Rattle.numbers.proofs.Bits.{mask-off}
 use Rattle.numbers.specs.Choice.{oneOf}
 use borrow.Author.Needs.{needs}
 use Rattle.channel.proofs.tests.no_command.Statement.{statement}
@@ -12,7 +10,7 @@ use Rattle.channel.proofs.tests.no_command.Tie as tie
 
 returns : tie.Need-returns
 unfolding oneOf
-returns c = same-on-bytes (λ (b : ℕ). eqb (bitAnd b 0x07) 0) (λ (b : ℕ). oneOf (0 ∷ 8 ∷ []) (b % 16)) refl (c .args .command) (search needs)
+returns c = mask-off _ (λ (b : ℕ). oneOf (0 ∷ 8 ∷ []) (b % 16)) refl (c .args .command) (search needs)
 
 pub no-command-spec : {M : Type 1} → statement M
 no-command-spec = tie.close

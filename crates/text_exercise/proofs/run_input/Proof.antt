@@ -1,4 +1,4 @@
--- `text_exercise::perform` meets its contract: settings, chain and main storage are what the input says. Assumes nothing.
+-- `text_exercise::run_input` meets its contract: settings, chain and main storage are what the input says. Assumes nothing.
 use native.Mathlib.Omega.{arith}
 use mathlib.Core.Path.{sym}
 use lib.ListN.{length-take}
@@ -6,8 +6,8 @@ use lib.Seq.{length-take-le}
 use Rattle.text_input.proofs.Rights.{few-blocks}
 use Rattle.text_exercise.proofs.Runs.{front-is}
 use borrow.Author.Needs.{needs}
-use Rattle.text_exercise.proofs.perform.Statement.{statement}
-use Rattle.text_exercise.proofs.perform.Tie as tie
+use Rattle.text_exercise.proofs.run_input.Statement.{statement}
+use Rattle.text_exercise.proofs.run_input.Tie as tie
 
 run-on-device-requires : tie.Need-run-on-device-requires
 run-on-device-requires c κs = (rw (c .before .before .before .before .before .before .before .before .before .before .before .before .before .settings-in .ensures) (few-blocks _ (c .before .before .before .before .before .before .before .before .before .before .before .before .before .before .before .before .before .before .before .before .pre .0)), c .before .before .before .before .before .before .before .before .before .before .before .before .before .before .before .before .before .before .before .before .pre .3, simp length-take (omega arith))
@@ -15,8 +15,8 @@ run-on-device-requires c κs = (rw (c .before .before .before .before .before .b
 returns : tie.Need-returns
 returns c = rw (c .before .before .before .before .before .before .before .before .before .before .before .before .before .before .before .before .before .before .before .before .before .before .settings-in .ensures, front-is (c .before .before .before .before .before .before .before .before .before .before .before .before .before .before .before .before .storage-in .ensures), front-is (c .before .before .before .before .before .before .before .before .before .before .before .before .before .before .before .before .before .before .before .before .chain-in .ensures)) at (c .before .before .before .before .before .before .before .before .run-on-device .ensures)
 
-pub perform-spec : {M : Type 1} → statement M
-perform-spec =
+pub run-input-spec : {M : Type 1} → statement M
+run-input-spec =
     tie.close
     (tie.spec
     (search needs)  -- settings-in-requires
