@@ -3,7 +3,7 @@ use mathlib.Core.Path.{sym, _∙_}
 use borrow.Author.Tests.{eqb-true}
 use Rattle.numbers.proofs.Joined.{both-true}
 use Rattle.unit_state.specs.Standing.{stateOf}
-use Rattle.chain.proofs.Runs.{turned, turned-go, on-left}
+use Rattle.chain.proofs.Runs.{turned, turned-go, turned-left, on-left}
 use borrow.Author.Needs.{needs}
 use Rattle.chain.proofs.run.one_turn.Statement.{statement}
 use Rattle.chain.proofs.run.one_turn.Tie as tie
@@ -23,11 +23,15 @@ returns c =
     let a = first .args in
     let s = stateOf (a .u) (a .s) in
     let e = ccw .ccw-at .ensures in
-    let d = step .step .result in (
-      λ k. turned (a .d) (a .chain .now) (a .i) _ s (a .main .now) (a .store .now) (a .answers .now) _ _ (a .u) (a .s) d k (e .0) (step .step .ensures) _ (put .put-answer .ensures) (e .1) (first .pre .3 .some-size),
+    let d = step .step .result in
+    let f = step .step .ensures in (
+      turned (a .d) (a .chain .now) (a .i) _ s (a .main .now) (a .store .now) (a .answers .now) _ _ (a .u) (a .s) d (e .0) f _ (put .put-answer .ensures) (e .1) (first .pre .3 .some-size),
       (
-        λ k. turned-go (a .d) (a .chain .now) (a .i) _ s (a .main .now) (a .store .now) (a .answers .now) _ _ (a .u) (a .s) d k (e .0) (step .step .ensures) _ (c .goes-on .ensures),
-        λ g. on-left (a .u) (d .left) (eqb-true _ _ (both-true _ _ (both-true _ _ (sym (c .goes-on .ensures) ∙ g) .0) .0)),
+        turned-go (a .d) (a .chain .now) (a .i) _ s (a .main .now) (a .store .now) (a .answers .now) _ _ (a .u) (a .s) d (e .0) f _ (c .goes-on .ensures),
+        (
+          turned-left (a .d) (a .chain .now) (a .i) _ s (a .main .now) (a .store .now) (a .answers .now) _ _ (a .u) (a .s) d (e .0) f,
+          λ g. on-left (a .u) (d .left) (eqb-true _ _ (both-true _ _ (both-true _ _ (sym (c .goes-on .ensures) ∙ g) .0) .0)),
+        ),
       ),
     )
 
