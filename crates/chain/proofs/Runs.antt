@@ -14,6 +14,7 @@ use native.Mathlib.Omega.{arith}
 use borrow.Author.Tests.{eqb-true, eqb-false}
 use Rattle.numbers.specs.Choice.{_=?_, pick, oneOf}
 use Rattle.numbers.proofs.Choice.{pick-true, pick-false}
+use Rattle.numbers.proofs.Joined.{both-true}
 use Rattle.numbers.specs.Big.{bytes4}
 use Rattle.slices.specs.Parts.{put, zeros}
 use Rattle.slices.proofs.Laws.{put-more, put-second}
@@ -47,83 +48,98 @@ use Rattle.unit_state.proofs.Units.{started-state, safe-any}
 use Rattle.endings.specs.declared.Ended.{Ended}
 use Rattle.endings.specs.Ending.{answerBytes, marked, wrongBy, shown, Leaves, Ends}
 use Rattle.endings.proofs.Answers.{answer-bytes}
-use Rattle.chain.specs.Walk.{carriedOf, leftOf, leftAt, leftFrom, systemOf, runOf, leftBy, leftCall}
+use Rattle.chain.specs.Walk.{carriedOf, leftOf, leftAt, leftFrom, systemOf, systemLeft, runOf, leftBy, leftCall}
 
-pub run-done : (dev : Device) (chain : List ℕ) (n i : ℕ) (y : System) → n ≡ 0 → run dev chain n i y ≡ y
-unfolding run
-run-done dev chain n i y e = rw e
+module _ (dev : Device) (chain : List ℕ) where
+  -- no command is left to do, and one is
+  run-done : (n i : ℕ) (y : System) → n ≡ 0 → run dev chain n i y ≡ y
+  unfolding run
+  run-done n i y e = rw e
 
-run-suc : (dev : Device) (chain : List ℕ) (m n i : ℕ) (y : System) → m ≡ suc n → run dev chain m i y ≡ pick (more dev chain i y) (run dev chain n (i + 1) (next dev chain i y)) (next dev chain i y)
-unfolding run
-run-suc dev chain m n i y e = rw e
+  run-suc : (m n i : ℕ) (y : System) → m ≡ suc n → run dev chain m i y ≡ pick (more dev chain i y) (run dev chain n (i + 1) (next dev chain i y)) (next dev chain i y)
+  unfolding run
+  run-suc m n i y e = rw e
 
-run-more : (dev : Device) (chain : List ℕ) (n i : ℕ) (y : System) → i < n → more dev chain i y ≡ true → run dev chain (n - i) i y ≡ run dev chain (n - (i + 1)) (i + 1) (next dev chain i y)
-run-more dev chain n i y h e = run-suc dev chain (n - i) (n - (i + 1)) i y (omega arith) ∙ pick-true _ _ _ e
+  left-done : (n i : ℕ) (s : Running) (y : System) → n ≡ 0 → leftFrom dev chain n i s y ≡ record { state = s; parameters = zeros 8; cause = 0 }
+  unfolding leftFrom
+  left-done n i s y e = rw e
 
-run-stop : (dev : Device) (chain : List ℕ) (n i : ℕ) (y : System) → i < n → more dev chain i y ≡ false → run dev chain (n - i) i y ≡ next dev chain i y
-run-stop dev chain n i y h e = run-suc dev chain (n - i) (n - (i + 1)) i y (omega arith) ∙ pick-false _ _ _ e
+  left-suc : (m n i : ℕ) (s : Running) (y : System) → m ≡ suc n
+      → leftFrom dev chain m i s y ≡ pick (more dev chain i y) (leftFrom dev chain n (i + 1) (leftAt dev chain i s y .state) (next dev chain i y)) (leftAt dev chain i s y)
+  unfolding leftFrom
+  left-suc m n i s y e = rw e
 
--- what is left, likewise
-left-suc : (dev : Device) (chain : List ℕ) (m n i : ℕ) (s : Running) (y : System) → m ≡ suc n
-    → leftFrom dev chain m i s y ≡ pick (more dev chain i y) (leftFrom dev chain n (i + 1) (leftAt dev chain i s y .state) (next dev chain i y)) (leftAt dev chain i s y)
-unfolding leftFrom
-left-suc dev chain m n i s y e = rw e
+  -- a command after which the chain goes on was accepted, and leaves the state that is carried
+  on-left : (u : Record) (i : ℕ) (s : Running) (y : System) (l : Left) → more dev chain i y ≡ true → l ≡ leftAt dev chain i s y → stateLeft u l ≡ stateOf u (l .state)
+  unfolding more goesOn leftOf
+  on-left u i s y l g f =
+      let accepted : l .cause ≡ 0 = ap (λ (x : Left). x .cause) f ∙ eqb-true _ _ (both-true _ _ (both-true _ _ g .0) .0) in
+      rw accepted
 
-left-done : (dev : Device) (chain : List ℕ) (n i : ℕ) (s : Running) (y : System) → n ≡ 0 → leftFrom dev chain n i s y ≡ record { state = s; parameters = zeros 8; cause = 0 }
-unfolding leftFrom
-left-done dev chain n i s y e = rw e
+  module _ (u : Record) (main₀ store₀ answers₀ : List ℕ) (n : ℕ) (s₀ : Running) where
+    abbrev lent : System
+    lent = systemOf u s₀ main₀ store₀ answers₀ 0
 
--- between two turns: the lengths are kept, the state is safe, and what is still to run from here gives the whole run, and leaves what it leaves
-pub record Underway (dev : Device) (chain : List ℕ) (u : Record) (main₀ store₀ answers₀ : List ℕ) (n : ℕ) (s₀ : Running) (main store answers : List ℕ) (s : Running) (i : ℕ) : Type 0 where
-  pub count : n ≡ length chain / ccwSize
-  pub below : i ≤ n
-  pub main-length : length main ≡ length main₀
-  pub store-length : length store ≡ length store₀
-  pub answers-length : length answers ≡ length answers₀
-  pub safe : Safe (stateOf u s) (blockCount dev store)
-  pub same : run dev chain (n - i) i (systemOf u s main store answers i) ≡ run dev chain n 0 (systemOf u s₀ main₀ store₀ answers₀ 0)
-  pub left : leftFrom dev chain (n - i) i s (systemOf u s main store answers i) ≡ leftFrom dev chain n 0 s₀ (systemOf u s₀ main₀ store₀ answers₀ 0)
+    -- what the whole run gives
+    abbrev pub Given : System → Left → Type 0
+    Given y l = (y ≡ run dev chain n 0 lent) × (l ≡ leftFrom dev chain n 0 s₀ lent)
 
-pub underway-start : (dev : Device) (chain : List ℕ) (u : Record) (main store answers : List ℕ) (n : ℕ) (s : Running) → n ≡ length chain / ccwSize → Safe (stateOf u s) (blockCount dev store)
-    → Underway dev chain u main store answers n s main store answers s 0
-underway-start dev chain u main store answers n s e h =
-    record { count = e; below = omega arith; main-length = refl; store-length = refl; answers-length = refl; safe = h; same = rw sub-zero refl; left = rw sub-zero refl }
+    -- between two turns: the lengths are kept, the state is safe, and what is still to run from here gives what the whole run does
+    pub record Underway (main store answers : List ℕ) (s : Running) (i : ℕ) : Type 0 where
+      pub count : n ≡ length chain / ccwSize
+      pub below : i ≤ n
+      pub main-length : length main ≡ length main₀
+      pub store-length : length store ≡ length store₀
+      pub answers-length : length answers ≡ length answers₀
+      pub safe : Safe (stateOf u s) (blockCount dev store)
+      pub same : Given (run dev chain (n - i) i (systemOf u s main store answers i)) (leftFrom dev chain (n - i) i s (systemOf u s main store answers i))
 
-module _ (dev : Device) (chain : List ℕ) (u : Record) (main₀ store₀ answers₀ : List ℕ) (n : ℕ) (s₀ : Running) (main store answers : List ℕ) (s : Running) (i : ℕ)
-    (w : Underway dev chain u main₀ store₀ answers₀ n s₀ main store answers s i) where
-  abbrev here : System
-  here = systemOf u s main store answers i
+    pub underway-start : n ≡ length chain / ccwSize → Safe (stateOf u s₀) (blockCount dev store₀) → Underway main₀ store₀ answers₀ s₀ 0
+    underway-start e h = record {
+      count = e;
+      below = omega arith;
+      main-length = refl;
+      store-length = refl;
+      answers-length = refl;
+      safe = h;
+      same = (rw sub-zero refl, rw sub-zero refl);
+    }
 
-  -- a turn that goes on leaves the run underway
-  pub underway-next : (main′ store′ answers′ : List ℕ) (l : Left) → i < n → 1 ≤ blockCount dev store → n * answerSize ≤ length answers₀
-      → systemOf u (l .state) main′ store′ answers′ (i + 1) ≡ next dev chain i here → more dev chain i here ≡ true → l ≡ leftAt dev chain i s here
-      → Underway dev chain u main₀ store₀ answers₀ n s₀ main′ store′ answers′ (l .state) (i + 1)
-  underway-next main′ store′ answers′ l h b a e g f =
-      let long : length answers ≡ length answers₀ = w .answers-length in
-      let k = next-going dev chain here b i here (omega (arith, long)) (record { main-length = refl; store-length = refl; answers-length = refl; safe = w .safe }) in
-      let m : Going dev here (systemOf u (l .state) main′ store′ answers′ (i + 1)) = rw e k in
-      record {
-        count = w .count;
-        below = omega arith;
-        main-length = m .main-length ∙ w .main-length;
-        store-length = m .store-length ∙ w .store-length;
-        answers-length = m .answers-length ∙ w .answers-length;
-        safe = m .safe;
-        same = ap (λ (z : System). run dev chain (n - (i + 1)) (i + 1) z) e ∙ sym (run-more dev chain n i here h g) ∙ w .same;
-        left = rw (e, f) (sym (left-suc dev chain (n - i) (n - (i + 1)) i s here (omega arith) ∙ pick-true _ _ _ g)) ∙ w .left;
-      }
+    module _ (main store answers : List ℕ) (s : Running) (i : ℕ) (w : Underway main store answers s i) where
+      abbrev here : System
+      here = systemOf u s main store answers i
 
-  -- a turn that does not go on ends the run
-  pub underway-stop : (z : System) (l : Left) → i < n → z ≡ next dev chain i here → more dev chain i here ≡ false → l ≡ leftAt dev chain i s here
-      → (z ≡ run dev chain n 0 (systemOf u s₀ main₀ store₀ answers₀ 0)) × (l ≡ leftFrom dev chain n 0 s₀ (systemOf u s₀ main₀ store₀ answers₀ 0))
-  underway-stop z l h e g f = (
-    e ∙ sym (run-stop dev chain n i here h g) ∙ w .same,
-    f ∙ sym (left-suc dev chain (n - i) (n - (i + 1)) i s here (omega arith) ∙ pick-false _ _ _ g) ∙ w .left,
-  )
+      -- a turn that goes on leaves the run underway
+      pub underway-next : (main′ store′ answers′ : List ℕ) (l : Left) → i < n → 1 ≤ blockCount dev store → n * answerSize ≤ length answers₀
+          → systemLeft u l main′ store′ answers′ (i + 1) ≡ next dev chain i here → more dev chain i here ≡ true → l ≡ leftAt dev chain i s here
+          → Underway main′ store′ answers′ (l .state) (i + 1)
+      underway-next main′ store′ answers′ l h b a d g f =
+          let e : systemOf u (l .state) main′ store′ answers′ (i + 1) ≡ next dev chain i here = rw (on-left u i s here l g f) at d in
+          let long : length answers ≡ length answers₀ = w .answers-length in
+          let k = next-going dev chain here b i here (omega (arith, long)) (record { main-length = refl; store-length = refl; answers-length = refl; safe = w .safe }) in
+          let m : Going dev here (systemOf u (l .state) main′ store′ answers′ (i + 1)) = rw e k in
+          record {
+            count = w .count;
+            below = omega arith;
+            main-length = m .main-length ∙ w .main-length;
+            store-length = m .store-length ∙ w .store-length;
+            answers-length = m .answers-length ∙ w .answers-length;
+            safe = m .safe;
+            same = (
+              rw e (sym (run-suc (n - i) (n - (i + 1)) i here (omega arith) ∙ pick-true _ _ _ g)) ∙ w .same .0,
+              rw (e, f) (sym (left-suc (n - i) (n - (i + 1)) i s here (omega arith) ∙ pick-true _ _ _ g)) ∙ w .same .1,
+            );
+          }
 
-  pub underway-done : n ≤ i
-      → (here ≡ run dev chain n 0 (systemOf u s₀ main₀ store₀ answers₀ 0)) × (record { state = s; parameters = zeros 8; cause = 0 } ≡ leftFrom dev chain n 0 s₀ (systemOf u s₀ main₀ store₀ answers₀ 0))
-  underway-done h = (sym (run-done dev chain (n - i) i here (omega arith)) ∙ w .same, sym (left-done dev chain (n - i) i s here (omega arith)) ∙ w .left)
+      -- a turn that does not go on ends the run
+      pub underway-stop : (y : System) (l : Left) → i < n → y ≡ next dev chain i here → more dev chain i here ≡ false → l ≡ leftAt dev chain i s here → Given y l
+      underway-stop y l h e g f = (
+        e ∙ sym (run-suc (n - i) (n - (i + 1)) i here (omega arith) ∙ pick-false _ _ _ g) ∙ w .same .0,
+        f ∙ sym (left-suc (n - i) (n - (i + 1)) i s here (omega arith) ∙ pick-false _ _ _ g) ∙ w .same .1,
+      )
+
+      pub underway-done : n ≤ i → Given here (record { state = s; parameters = zeros 8; cause = 0 })
+      underway-done h = (sym (run-done (n - i) i here (omega arith)) ∙ w .same .0, sym (left-done (n - i) i s here (omega arith)) ∙ w .same .1)
 
 -- an answer's two numbers, put one after the other, and the mark of a wrong length
 pub put-words : (answers first both f b : List ℕ) (at front back : ℕ) → f ≡ bytes4 front → b ≡ bytes4 back → first ≡ put answers at (take 4 f) → both ≡ put first (at + 4) (take 4 b)
@@ -162,31 +178,35 @@ go-by-kind true channels c can chained = go (wrongLength c can)
     go false = refl
 go-by-kind false channels c can chained = refl
 
-module _ (dev : Device) (chain : List ℕ) (i : ℕ) (c : Ccw) (s : State) (main store answers main′ store′ : List ℕ) (u : Record) (t : Running) (r : Ended)
-    (e : c ≡ ccwAt chain i) (f : Ends u c t r main′ store′ (step dev c s main store)) where
-  pub turned : (answers′ : List ℕ) → answers′ ≡ put answers (i * answerSize) (marked (r .wrong) (answerBytes (r .answer))) → c .count < 65536 → 1 ≤ dev .block
-      → system (stateLeft u (r .left)) main′ store′ answers′ (i + 1) ≡ next dev chain i (system s main store answers i)
+module _ (dev : Device) (chain : List ℕ) (i : ℕ) (c : Ccw) (u : Record) (s : Running) (main store answers main′ store′ : List ℕ) (r : Ended)
+    (e : c ≡ ccwAt chain i) (f : Ends u c s r main′ store′ (step dev c (stateOf u s) main store)) where
+  abbrev found : System
+  found = systemOf u s main store answers i
+
+  turned-system : (answers′ : List ℕ) → answers′ ≡ put answers (i * answerSize) (marked (r .wrong) (answerBytes (r .answer))) → c .count < 65536 → 1 ≤ dev .block
+      → systemLeft u (r .left) main′ store′ answers′ (i + 1) ≡ next dev chain i found
   unfolding next stepAt
-  turned answers′ h n b =
-      let o : Out = step dev c s main store in
-      let small : o .done .cause < 256 = rw (step-cause dev c s main store) (verdict-small dev c s main store) in
-      let few : o .done .blocks < 65536 = omega (arith, step-blocks dev c s main store b, n) in
+  turned-system answers′ h n b =
+      let o : Out = step dev c (stateOf u s) main store in
+      let small : o .done .cause < 256 = rw (step-cause dev c (stateOf u s) main store) (verdict-small dev c (stateOf u s) main store) in
+      let few : o .done .blocks < 65536 = omega (arith, step-blocks dev c (stateOf u s) main store b, n) in
       let answer : marked (r .wrong) (answerBytes (r .answer)) ≡ answerOf c (o .done) = rw (f .wrong, f .answer) (answer-bytes c (o .done) n small few) in
       rw (← e, h, answer, f .left .state, f .main-same, f .store-same)
 
-  pub turned-go : (b : Bool) → b ≡ (r .left .cause =? 0 && not (r .wrong) && flag c chain-command) → b ≡ more dev chain i (system s main store answers i)
+  turned-go : (b : Bool) → b ≡ (r .left .cause =? 0 && not (r .wrong) && flag c chain-command) → b ≡ more dev chain i found
   unfolding more stepAt goesOn channelStatus
   turned-go b g =
-      let d : Done = step dev c s main store .done in
+      let d : Done = step dev c (stateOf u s) main store .done in
       rw (← e) (g ∙ rw (f .left .cause, f .wrong) (sym (go-by-kind (d .cause =? 0) (oneOf (10 ∷ 11 ∷ 12 ∷ 13 ∷ []) (d .cause)) c (d .can) (flag c chain-command))))
 
-  pub turned-left : r .left ≡ leftAt dev chain i t (system s main store answers i)
+  turned-left : r .left ≡ leftAt dev chain i s found
   unfolding stepAt
-  turned-left = rw (← e) (left-known u c t (r .left) _ (f .left))
+  turned-left = rw (← e) (left-known u c s (r .left) _ (f .left))
 
--- what an accepted command leaves is the state that is carried
-pub on-left : (u : Record) (l : Left) → l .cause ≡ 0 → stateLeft u l ≡ stateOf u (l .state)
-on-left u l e = rw e
+  pub turned : (answers′ : List ℕ) (b : Bool) → answers′ ≡ put answers (i * answerSize) (marked (r .wrong) (answerBytes (r .answer))) → c .count < 65536 → 1 ≤ dev .block
+      → b ≡ (r .left .cause =? 0 && not (r .wrong) && flag c chain-command)
+      → (systemLeft u (r .left) main′ store′ answers′ (i + 1) ≡ next dev chain i found) × ((b ≡ more dev chain i found) × (r .left ≡ leftAt dev chain i s found))
+  turned answers′ b h n d g = (turned-system answers′ h n d, (turned-go b g, turned-left))
 
 -- a store that kept its length is as good
 pub sound-same : (dev : Device) (u : Record) (s t : Running) (store store′ : List ℕ) → length store′ ≡ length store → Sound dev s store → Safe (stateOf u t) (blockCount dev store′) → Sound dev t store′

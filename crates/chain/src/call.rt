@@ -39,7 +39,8 @@ pub fn run_allowed(
     requires { ⌜ firstOf (callCauses classA (now chain) (now main) (now store) (now answers)) ≡ 0 ⌝ }
     ensures after { λ r. ⌜ called 0 (systemLeft u (r .left) (now (main .exit)) (now (store .exit)) (now (answers .exit)) (r .reached))
         ≡ call (now (chain .entry)) (now (main .entry)) (now (store .entry)) u (now (answers .entry)) ⌝ }
-    ensures left { λ r. ⌜ r .left ≡ leftCall (now (chain .entry)) (now (main .entry)) (now (store .entry)) u (now (answers .entry)) ⌝ }
+    ensures left { λ r. ⌜ r .left
+        ≡ leftCall (now (chain .entry)) (now (main .entry)) (now (store .entry)) u (now (answers .entry)) ⌝ }
 {
     run_chain(class_a(), chain, u, start(u), main, store, answers)
 }

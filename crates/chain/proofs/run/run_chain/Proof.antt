@@ -1,7 +1,6 @@
 -- `run::run_chain` meets its contract. Invariant `Underway`: lengths kept, the state safe, and what is still to run from here gives the whole run; the commands left fall. Assumes nothing.
 use Prim.Native.Nat.{_-_}
-use mathlib.Core.Path.{_≡_, refl, sym, _∙_}
-use mathlib.Core.Bool.{true}
+use mathlib.Core.Path.{refl, sym, _∙_}
 use native.Mathlib.Omega.{arith}
 use borrow.Author.Tests.{not-true, not-false}
 use Rattle.slices.specs.Parts.{zeros}
@@ -59,7 +58,7 @@ returns c =
     let l = turn .before .loop in
     let p = done .one-turn .ensures in
     underway-stop (a .d) (a .chain .now) (a .u) (a .main .now) (a .store .now) (a .answers .now) _ (a .s) (l .main) (l .store) (l .answers) (l .state) (l .i) (l .inv) _ _ (turn .loop-test .taken)
-    (p .0) (sym (p .1 .0) ∙ not-true _ (c .if1 .taken)) (p .1 .1 .0)
+    (p .0) (sym (p .1 .0) ∙ not-true _ (c .if1 .taken)) (p .1 .1)
 
 loop-less : tie.Need-loop-less Inv-loop μ-loop
 loop-less c = omega arith
@@ -71,10 +70,9 @@ loop-again c =
     let first = turn .before .before .before .before .before .before in
     let a = first .args in
     let l = turn .before .loop in
-    let go : done .one-turn .result .go ≡ true = not-false _ (c .if1 .left) in
     let p = done .one-turn .ensures in
     underway-next (a .d) (a .chain .now) (a .u) (a .main .now) (a .store .now) (a .answers .now) _ (a .s) (l .main) (l .store) (l .answers) (l .state) (l .i) (l .inv) _ _ _ _ (turn .loop-test .taken)
-    (sound turn .some-block) (omega (arith, l .inv .count, first .pre .0)) (rw (p .1 .1 .1 go) at (p .0)) (sym (p .1 .0) ∙ go) (p .1 .1 .0)
+    (sound turn .some-block) (omega (arith, l .inv .count, first .pre .0)) (p .0) (sym (p .1 .0) ∙ not-false _ (c .if1 .left)) (p .1 .1)
 
 same-length-4 : tie.Need-same-length-4 Inv-loop μ-loop
 same-length-4 c = omega arith
