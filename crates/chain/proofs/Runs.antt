@@ -1,9 +1,10 @@
--- Laws of `run`: done, one more command, and the command that ends it. No contract cites this file.
---     Underway                 what holds between two turns of the loop; it begins so, goes on so, and ends in the run
---     put-words, put-marked      an answer is put
---     turned, turned-go        one turn of the code is `next`, and its answer to "go on" is `more`
+-- Laws of `run`, and of what is left beside it: done, one more command, and the command that ends it. No contract cites this file.
+--     Underway                     what holds between two turns of the loop; it begins so, goes on so, and ends in the run
+--     put-words, put-marked        an answer is put
+--     left-known                   `Leaves` says all of what a command leaves
+--     turned                       one turn of the code is `next`, its answer to "go on" is `more`, and it leaves what the command does
 --     sound-same, callable-sound   the device and the state of a run
---     allowed                  a run that no cause refuses is the call
+--     allowed                      a run that no cause refuses is the call
 use Prim.Native.Nat.{ℕ, suc, _+_, _-_, _*_, _/_, _≤_, _<_}
 use mathlib.Core.Path.{_≡_, refl, sym, ap, _∙_}
 use mathlib.Core.Bool.{Bool, true, false, not, _&&_}
@@ -20,19 +21,18 @@ use Rattle.slices.specs.Parts.{put, zeros}
 use Rattle.slices.proofs.Laws.{put-more, put-second}
 use Rattle.model.specs.declared.ccw.Ccw.{Ccw}
 use Rattle.model.specs.declared.device.Device.{Device}
-use Rattle.model.specs.declared.kind.Kind.{Kind}
-use Rattle.model.specs.declared.kind.Kind.the-variants.{Accepted, ProgramCheck, UnitCheck}
+use Rattle.model.specs.declared.kind.Kind.the-variants.{Accepted}
 use Rattle.model.specs.declared.record.Record.{Record}
-use Rattle.model.specs.State.{State, Done}
+use Rattle.model.specs.State.{Done}
 use Rattle.model.specs.Log.{withCounts}
 use Rattle.model.specs.Names.{NO-OPERATION, chain-command, INCORRECT-LENGTH}
 use Rattle.model.specs.Rules.{firstOf}
 use Rattle.model.specs.Lent.{ccwSize, ccwAt, flag, blockCount, fetched}
 use Rattle.model.specs.Parameters.{locateLength}
-use Rattle.model.specs.Causes.{callCauses, kindBy, kindOf}
+use Rattle.model.specs.Causes.{callCauses, kindBy}
 use Rattle.model.specs.Commands.{Out, step}
 use Rattle.model.specs.Answer.{answerSize, answerOf, channelBy, channelStatus, wrongLength, goesOn}
-use Rattle.model.specs.Chain.{System, system, stepAt, next, more, run, called, call, classA}
+use Rattle.model.specs.Chain.{System, stepAt, next, more, run, called, call, classA}
 use Rattle.model.specs.Safe.{Safe}
 use Rattle.model.proofs.Endings.{Callable}
 use Rattle.model.proofs.Fields.{verdict-small, step-blocks}
@@ -56,21 +56,25 @@ module _ (dev : Device) (chain : List ℕ) where
   unfolding run
   run-done n i y e = rw e
 
-  run-suc : (m n i : ℕ) (y : System) → m ≡ suc n → run dev chain m i y ≡ pick (more dev chain i y) (run dev chain n (i + 1) (next dev chain i y)) (next dev chain i y)
+  run-suc : (m n i : ℕ) (y : System) → m ≡ suc n
+      → run dev chain m i y ≡ pick (more dev chain i y) (run dev chain n (i + 1) (next dev chain i y)) (next dev chain i y)
   unfolding run
   run-suc m n i y e = rw e
 
-  left-done : (n i : ℕ) (s : Running) (y : System) → n ≡ 0 → leftFrom dev chain n i s y ≡ record { state = s; parameters = zeros 8; cause = 0 }
+  left-done : (n i : ℕ) (s : Running) (y : System) → n ≡ 0
+      → leftFrom dev chain n i s y ≡ record { state = s; parameters = zeros 8; cause = 0 }
   unfolding leftFrom
   left-done n i s y e = rw e
 
   left-suc : (m n i : ℕ) (s : Running) (y : System) → m ≡ suc n
-      → leftFrom dev chain m i s y ≡ pick (more dev chain i y) (leftFrom dev chain n (i + 1) (leftAt dev chain i s y .state) (next dev chain i y)) (leftAt dev chain i s y)
+      → leftFrom dev chain m i s y ≡ pick (more dev chain i y)
+      (leftFrom dev chain n (i + 1) (leftAt dev chain i s y .state) (next dev chain i y)) (leftAt dev chain i s y)
   unfolding leftFrom
   left-suc m n i s y e = rw e
 
   -- a command after which the chain goes on was accepted, and leaves the state that is carried
-  on-left : (u : Record) (i : ℕ) (s : Running) (y : System) (l : Left) → more dev chain i y ≡ true → l ≡ leftAt dev chain i s y → stateLeft u l ≡ stateOf u (l .state)
+  on-left : (u : Record) (i : ℕ) (s : Running) (y : System) (l : Left) → more dev chain i y ≡ true → l ≡ leftAt dev chain i s y
+      → stateLeft u l ≡ stateOf u (l .state)
   unfolding more goesOn leftOf
   on-left u i s y l g f =
       let accepted : l .cause ≡ 0 = ap (λ (x : Left). x .cause) f ∙ eqb-true _ _ (both-true _ _ (both-true _ _ g .0) .0) in
@@ -92,7 +96,8 @@ module _ (dev : Device) (chain : List ℕ) where
       pub store-length : length store ≡ length store₀
       pub answers-length : length answers ≡ length answers₀
       pub safe : Safe (stateOf u s) (blockCount dev store)
-      pub same : Given (run dev chain (n - i) i (systemOf u s main store answers i)) (leftFrom dev chain (n - i) i s (systemOf u s main store answers i))
+      pub same : Given (run dev chain (n - i) i (systemOf u s main store answers i))
+          (leftFrom dev chain (n - i) i s (systemOf u s main store answers i))
 
     pub underway-start : n ≡ length chain / ccwSize → Safe (stateOf u s₀) (blockCount dev store₀) → Underway main₀ store₀ answers₀ s₀ 0
     underway-start e h = record {
@@ -132,7 +137,8 @@ module _ (dev : Device) (chain : List ℕ) where
           }
 
       -- a turn that does not go on ends the run
-      pub underway-stop : (y : System) (l : Left) → i < n → y ≡ next dev chain i here → more dev chain i here ≡ false → l ≡ leftAt dev chain i s here → Given y l
+      pub underway-stop : (y : System) (l : Left) → i < n → y ≡ next dev chain i here → more dev chain i here ≡ false
+          → l ≡ leftAt dev chain i s here → Given y l
       underway-stop y l h e g f = (
         e ∙ sym (run-suc (n - i) (n - (i + 1)) i here (omega arith) ∙ pick-false _ _ _ g) ∙ w .same .0,
         f ∙ sym (left-suc (n - i) (n - (i + 1)) i s here (omega arith) ∙ pick-false _ _ _ g) ∙ w .same .1,
