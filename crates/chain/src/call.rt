@@ -9,8 +9,8 @@ use unit_state::start;
 ghost use mathlib.Core.Path.{_≡_};
 ghost use Rattle.model.specs.Rules.{firstOf};
 ghost use Rattle.model.specs.Causes.{callCauses};
-ghost use Rattle.model.specs.Chain.{call, classA};
-ghost use Rattle.unit_state.specs.Standing.{stateLeft};
+ghost use Rattle.model.specs.Chain.{called, call, classA};
+ghost use Rattle.chain.specs.Walk.{systemLeft, leftCall, calledWith};
 
 // Class A: the bytes of a block.
 const BLOCK_SIZE: usize = 512;
@@ -37,7 +37,10 @@ pub fn run_allowed(
     answers: &mut [u8],
 ) -> Walked
     requires { ⌜ firstOf (callCauses classA (now chain) (now main) (now store) (now answers)) ≡ 0 ⌝ }
-    ensures { λ r. ⌜ record { cause = 0; reached = r .reached; unit = stateLeft u (r .left) .unit; main = now (main .exit); store = now (store .exit); answers = now (answers .exit) } ≡ call (now (chain .entry)) (now (main .entry)) (now (store .entry)) u (now (answers .entry)) ⌝ }
+    ensures after { λ r. ⌜ called 0 (systemLeft u (r .left) (now (main .exit)) (now (store .exit)) (now (answers .exit)) (r .reached))
+        ≡ call (now (chain .entry)) (now (main .entry)) (now (store .entry)) u (now (answers .entry)) ⌝ }
+    ensures left { λ r. ⌜ r .left
+        ≡ leftCall (now (chain .entry)) (now (main .entry)) (now (store .entry)) u (now (answers .entry)) ⌝ }
 {
     run_chain(class_a(), chain, u, start(u), main, store, answers)
 }
@@ -56,7 +59,8 @@ pub fn call(
     store: &mut [u8],
     answers: &mut [u8],
 ) -> Called
-    ensures { λ r. ⌜ record { cause = r .cause; reached = r .reached; unit = r .unit; main = now (main .exit); store = now (store .exit); answers = now (answers .exit) } ≡ call (now (chain .entry)) (now (main .entry)) (now (store .entry)) u (now (answers .entry)) ⌝ }
+    ensures { λ r. ⌜ calledWith r (now (main .exit)) (now (store .exit)) (now (answers .exit))
+        ≡ call (now (chain .entry)) (now (main .entry)) (now (store .entry)) u (now (answers .entry)) ⌝ }
 {
     let cause = cause_of(chain, main, store, answers);
     if cause != 0 {

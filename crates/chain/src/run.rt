@@ -10,17 +10,18 @@ use unit::step;
 use unit_state::Left;
 use unit_state::Running;
 ghost use mathlib.Core.Path.{_≡_};
-ghost use mathlib.Core.Bool.{true, not, _&&_};
-ghost use Prim.Native.Nat.{ℕ, _+_, _*_, _/_, _≤_, _<_};
+ghost use mathlib.Core.Bool.{not, _&&_};
+ghost use Prim.Native.Nat.{_+_, _*_, _≤_, _<_};
 ghost use lib.ListN.{length, set};
 ghost use Rattle.numbers.specs.Choice.{_=?_, pick};
 ghost use Rattle.slices.specs.Parts.{put};
 ghost use Rattle.model.specs.Names.{chain-command, INCORRECT-LENGTH};
 ghost use Rattle.model.specs.Lent.{ccwSize, flag};
 ghost use Rattle.model.specs.Answer.{answerSize};
-ghost use Rattle.model.specs.Chain.{system, next, more, run};
-ghost use Rattle.unit_state.specs.Standing.{stateOf, stateLeft, Sound};
+ghost use Rattle.model.specs.Chain.{next, more};
+ghost use Rattle.unit_state.specs.Standing.{Sound};
 ghost use Rattle.endings.specs.Ending.{answerBytes, marked};
+ghost use Rattle.chain.specs.Walk.{systemOf, systemLeft, leftAt, runOf, leftBy};
 
 // The bytes of a CCW, and of an answer.
 const CCW_SIZE: usize = 8;
@@ -80,10 +81,14 @@ fn one_turn(
     store: &mut [u8],
     answers: &mut [u8],
 ) -> Turn
-    requires { ⌜ (i * ccwSize + ccwSize ≤ length (now chain)) × (length (now chain) ≤ 256) × (i * answerSize + answerSize ≤ length (now answers)) × Sound d s (now store) ⌝ }
-    ensures after { λ r. ⌜ ((k : ℕ) → system (stateLeft u (r .left)) (now (main .exit)) (now (store .exit)) (now (answers .exit)) (i + 1) ≡ next d (now (chain .entry)) i (system (stateOf u s) (now (main .entry)) (now (store .entry)) (now (answers .entry)) k)) ⌝ }
-    ensures go { λ r. ⌜ ((k : ℕ) → r .go ≡ more d (now (chain .entry)) i (system (stateOf u s) (now (main .entry)) (now (store .entry)) (now (answers .entry)) k)) ⌝ }
-    ensures same { λ r. ⌜ (r .go ≡ true → stateLeft u (r .left) ≡ stateOf u (r .left .state)) ⌝ }
+    requires { ⌜ (i * ccwSize + ccwSize ≤ length (now chain)) × (length (now chain) ≤ 256)
+        × (i * answerSize + answerSize ≤ length (now answers)) × Sound d s (now store) ⌝ }
+    ensures after { λ r. ⌜ systemLeft u (r .left) (now (main .exit)) (now (store .exit)) (now (answers .exit)) (i + 1)
+        ≡ next d (now (chain .entry)) i (systemOf u s (now (main .entry)) (now (store .entry)) (now (answers .entry)) i) ⌝ }
+    ensures go { λ r. ⌜ r .go
+        ≡ more d (now (chain .entry)) i (systemOf u s (now (main .entry)) (now (store .entry)) (now (answers .entry)) i) ⌝ }
+    ensures left { λ r. ⌜ r .left
+        ≡ leftAt d (now (chain .entry)) i s (systemOf u s (now (main .entry)) (now (store .entry)) (now (answers .entry)) i) ⌝ }
 {
     let c = ccw_at(chain, i);
     let e = step(d, u, c, s, main, store);
@@ -111,7 +116,10 @@ pub fn run_chain(
     answers: &mut [u8],
 ) -> Walked
     requires { ⌜ (length (now chain) ≤ length (now answers)) × (length (now chain) ≤ 256) × Sound d s (now store) ⌝ }
-    ensures { λ r. ⌜ system (stateLeft u (r .left)) (now (main .exit)) (now (store .exit)) (now (answers .exit)) (r .reached) ≡ run d (now (chain .entry)) (length (now (chain .entry)) / ccwSize) 0 (system (stateOf u s) (now (main .entry)) (now (store .entry)) (now (answers .entry)) 0) ⌝ }
+    ensures after { λ r. ⌜ systemLeft u (r .left) (now (main .exit)) (now (store .exit)) (now (answers .exit)) (r .reached)
+        ≡ runOf d (now (chain .entry)) (systemOf u s (now (main .entry)) (now (store .entry)) (now (answers .entry)) 0) ⌝ }
+    ensures left { λ r. ⌜ r .left
+        ≡ leftBy d (now (chain .entry)) s (systemOf u s (now (main .entry)) (now (store .entry)) (now (answers .entry)) 0) ⌝ }
 {
     let n = chain.len() / CCW_SIZE;
     let mut state = s;

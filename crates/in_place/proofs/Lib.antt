@@ -1,3 +1,4 @@
+pub mod Lent
 pub mod Reached
 pub mod Unique
 pub mod MovedEnds

@@ -5,6 +5,7 @@
 --     defined-unique, location-unique   an answer that is known by its number
 --     status-unique, channel-unique     a status that is known by its byte
 --     log-unique                        a log that is known by its bytes
+--     walked-unique, allowed-unique     the run of a chain, and of one that no cause refuses
 --     after-unique, made-unique         the run, by value and in place
 -- docs/PROOFS.md lists which function has which form. Assumes nothing.
 use Prim.Native.Nat.{ℕ}
@@ -15,11 +16,10 @@ use lib.Dec.{eqb}
 use Rattle.model.specs.declared.ccw.Ccw.{Ccw}
 use Rattle.model.specs.declared.record.Record.{Record}
 use Rattle.model.specs.declared.record.Counts.{Counts}
-use Rattle.model.specs.Log.{withCounts, logOf}
+use Rattle.model.specs.Log.{logOf}
 use Rattle.model.specs.declared.status.Status.{Status}
 use Rattle.model.specs.declared.status.Channel.{Channel}
-use borrow.Author.Tests.{eqb-true, eqb-false}
-use Rattle.numbers.specs.Choice.{_=?_, pick}
+use Rattle.numbers.specs.Choice.{pick}
 use Rattle.command_extent.specs.declared.Defined.{Defined}
 use Rattle.command_extent.specs.declared.Defined.the-variants.{Taken, BadMask, Maintenance, BadSize, FirstAfterLast, PastDevice}
 use Rattle.command_locate.specs.declared.Location.{Location}
@@ -27,17 +27,18 @@ use Rattle.command_locate.specs.declared.Location.the-variants.{Found, BadModif
 use Rattle.command_extent.specs.Answers.{definedNumber}
 use Rattle.command_locate.specs.Answers.{locationNumber}
 use Rattle.model.specs.Commands.{Out}
+use Rattle.model.specs.Chain.{System, Called, called}
 use Rattle.log.specs.declared.Log.{Log}
 use Rattle.log.specs.Counts.{counted}
 use Rattle.unit_state.specs.declared.Running.{Running}
-use Rattle.unit_state.specs.Standing.{unitOf, stateOf}
 use Rattle.endings.specs.declared.Ended.{Ended}
 use Rattle.unit_state.specs.declared.Left.{Left}
-use Rattle.endings.specs.Ending.{shown, Leaves, Ends}
-use Rattle.model.specs.Lent.{fetched, newRecord}
-use Rattle.model.specs.Parameters.{locateLength}
+use Rattle.endings.specs.Ending.{Ends}
+use Rattle.chain.specs.declared.run.Walked.{Walked}
+use Rattle.chain.specs.Walk.{systemLeft}
+use Rattle.chain.proofs.Runs.{left-known}
+use Rattle.model.specs.Lent.{newRecord}
 use Rattle.in_place.specs.declared.Ran.{Ran}
-use Rattle.in_place.specs.Run as lending
 use Rattle.in_place.specs.Run.{After, Made}
 
 pub same-by : {A : Type 0} (x y z : A) → x ≡ z → y ≡ z → x ≡ y
@@ -49,32 +50,6 @@ told-unique P true false f g = sym (g .1 (f .0 refl))
 told-unique P false true f g = f .1 (g .0 refl)
 told-unique P false false f g = refl
 
--- what is carried is known by the state that it stands for, and by whether the sense is still as found
-same-running : (u : Record) (s t : Running) → s .kept ≡ t .kept → stateOf u s ≡ stateOf u t → s ≡ t
-unfolding stateOf unitOf counted withCounts
-same-running u s t k e = λ i. record {
-  kept = k i;
-  defined = e i .defined;
-  before = e i .before;
-  counts = record { «blocks_read» = e i .unit .«blocks_read»; «blocks_written» = e i .unit .«blocks_written»; movements = e i .unit .movements };
-  extent = e i .extent;
-  located = e i .located;
-}
-
--- what a command leaves carries the state that it left, or, where it was refused, the one that it found
-carried : (u : Record) (c : Ccw) (s : Running) (l m : Left) (o : Out) → Leaves u c s l o → Leaves u c s m o → l .state ≡ m .state
-carried u c s l m o p q = go (o .done .cause =? 0) refl
-  where
-    go : (b : Bool) → o .done .cause =? 0 ≡ b → l .state ≡ m .state
-    go true e =
-        let z = eqb-true _ _ e in
-        let f = p .cause ∙ z in
-        let g = q .cause ∙ z in
-        same-running u (l .state) (m .state) (p .kept f ∙ sym (q .kept g)) (rw f at (p .state) ∙ sym (rw g at (q .state)))
-    go false e =
-        let n = eqb-false _ _ e in
-        p .refused (λ z. n (sym (p .cause) ∙ z)) ∙ sym (q .refused (λ z. n (sym (q .cause) ∙ z)))
-
 -- the ending of a command: the state, the cause, the parameters beside it, the answer, the wrong length, and both storages
 pub record SameEnding (d e : Ended) (main main′ store store′ : List ℕ) : Type 0 where
   pub ended : d ≡ e
@@ -84,13 +59,11 @@ pub record SameEnding (d e : Ended) (main main′ store store′ : List ℕ) : T
 pub ends-unique : (o : Out) (u : Record) (c : Ccw) (s : Running) (d e : Ended) (main main′ store store′ : List ℕ) → Ends u c s d main store o → Ends u c s e main′ store′ o
     → SameEnding d e main main′ store store′
 ends-unique o u c s d e main main′ store store′ p q =
-    let cause = p .left .cause ∙ sym (q .left .cause) in
-    let parameters = p .left .parameters ∙ ap (λ (w : ℕ). shown w (fetched c (o .main) locateLength)) cause ∙ sym (q .left .parameters) in
-    let state = carried u c s (d .left) (e .left) o (p .left) (q .left) in
+    let left = left-known u c s (d .left) o (p .left) ∙ sym (left-known u c s (e .left) o (q .left)) in
     let answer = p .answer ∙ sym (q .answer) in
     let wrong = p .wrong ∙ sym (q .wrong) in
     record {
-      ended = λ i. record { left = record { state = state i; parameters = parameters i; cause = cause i }; answer = answer i; wrong = wrong i };
+      ended = λ i. record { left = left i; answer = answer i; wrong = wrong i };
       main-same = p .main-same ∙ sym (q .main-same);
       store-same = p .store-same ∙ sym (q .store-same);
     }
@@ -141,6 +114,29 @@ location-back NoAlternate = refl
 pub location-unique : (n : ℕ) (a b : Location) → locationNumber a ≡ n → locationNumber b ≡ n → a ≡ b
 location-unique n a b p q = sym (location-back a) ∙ ap locationOf (p ∙ sym q) ∙ location-back b
 
+-- the run of a chain: what is left, the commands reached, and what was lent
+pub record SameWalk (v w : Walked) (main main′ store store′ answers answers′ : List ℕ) : Type 0 where
+  pub walked : v ≡ w
+  pub main-same : main ≡ main′
+  pub store-same : store ≡ store′
+  pub answers-same : answers ≡ answers′
+
+module _ (u : Record) (l : Left) (v w : Walked) (m₁ s₁ a₁ m₂ s₂ a₂ : List ℕ) (left : v .left ≡ l) (left′ : w .left ≡ l) where
+  pub allowed-unique : (c : Called) → called 0 (systemLeft u (v .left) m₁ s₁ a₁ (v .reached)) ≡ c → called 0 (systemLeft u (w .left) m₂ s₂ a₂ (w .reached)) ≡ c
+      → SameWalk v w m₁ m₂ s₁ s₂ a₁ a₂
+  allowed-unique c p q =
+      let e = same-by _ _ c p q in
+      let f = same-by _ _ l left left′ in
+      record {
+        walked = λ i. record { left = f i; reached = e i .reached };
+        main-same = λ i. e i .main;
+        store-same = λ i. e i .store;
+        answers-same = λ i. e i .answers;
+      }
+
+  pub walked-unique : (y : System) → systemLeft u (v .left) m₁ s₁ a₁ (v .reached) ≡ y → systemLeft u (w .left) m₂ s₂ a₂ (w .reached) ≡ y → SameWalk v w m₁ m₂ s₁ s₂ a₁ a₂
+  walked-unique y p q = allowed-unique (called 0 y) (ap (called 0) p) (ap (called 0) q)
+
 pub record SameRun (v w : Ran) (storage storage′ store store′ answers answers′ : List ℕ) : Type 0 where
   pub unit-same : v .unit ≡ w .unit
   pub code-same : v .code ≡ w .code
@@ -153,11 +149,11 @@ pub after-unique : (r : Record) (chain m s a : List ℕ) (v w : Ran) (m₁ s₁ 
 after-unique r chain m s a v w m₁ s₁ a₁ m₂ s₂ a₂ p q =
     let e = p .is ∙ sym (q .is) in
     record {
-      unit-same = ap (λ (x : lending.Outcome). x .unit) e;
-      code-same = ap (λ (x : lending.Outcome). x .code) e;
-      storage-same = ap (λ (x : lending.Outcome). x .storage) e;
-      store-same = ap (λ (x : lending.Outcome). x .store) e;
-      answers-same = ap (λ (x : lending.Outcome). x .answers) e;
+      unit-same = λ i. e i .unit;
+      code-same = λ i. e i .code;
+      storage-same = λ i. e i .storage;
+      store-same = λ i. e i .store;
+      answers-same = λ i. e i .answers;
     }
 
 pub made-unique : (r : Record) (chain m s a : List ℕ) (c d : ℕ) (u v : Record) (m₁ s₁ a₁ m₂ s₂ a₂ : List ℕ)

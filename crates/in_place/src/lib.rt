@@ -29,7 +29,8 @@ pub fn run_core(
     store: &mut [u8],
     answers: &mut [u8],
 ) -> Ran
-    ensures { λ w. ⌜ After r (now (chain .entry)) (now (storage .entry)) (now (store .entry)) (now (answers .entry)) w (now (storage .exit)) (now (store .exit)) (now (answers .exit)) ⌝ }
+    ensures { λ w. ⌜ After r (now (chain .entry)) (now (storage .entry)) (now (store .entry)) (now (answers .entry))
+        w (now (storage .exit)) (now (store .exit)) (now (answers .exit)) ⌝ }
 {
     let called = call(r, chain, storage, store, answers);
     let left = called.unit;
@@ -47,7 +48,8 @@ pub fn run(
     store: &mut [u8],
     answers: &mut [u8],
 ) -> u32
-    ensures { λ c. ⌜ Made (now (u .entry)) (now (chain .entry)) (now (storage .entry)) (now (store .entry)) (now (answers .entry)) c (now (u .exit)) (now (storage .exit)) (now (store .exit)) (now (answers .exit)) ⌝ }
+    ensures { λ c. ⌜ Made (now (u .entry)) (now (chain .entry)) (now (storage .entry)) (now (store .entry)) (now (answers .entry))
+        c (now (u .exit)) (now (storage .exit)) (now (store .exit)) (now (answers .exit)) ⌝ }
 {
     let ran = run_core(*u, chain, storage, store, answers);
     *u = ran.unit;
@@ -62,7 +64,8 @@ pub fn run_lending(
     store: &mut [u8],
     answers: &mut [u8],
 ) -> Ran
-    ensures { λ w. ⌜ After r (now (chain .entry)) (now (storage .entry)) (now (store .entry)) (now (answers .entry)) w (now (storage .exit)) (now (store .exit)) (now (answers .exit)) ⌝ }
+    ensures { λ w. ⌜ After r (now (chain .entry)) (now (storage .entry)) (now (store .entry)) (now (answers .entry))
+        w (now (storage .exit)) (now (store .exit)) (now (answers .exit)) ⌝ }
 {
     let mut t = r;
     let code = run(&mut t, chain, storage, store, answers);

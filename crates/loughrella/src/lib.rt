@@ -19,7 +19,8 @@ pub extern "C" fn loughrella_run(
     unit: &mut [u8],
     answers: &mut [u8],
 ) -> u32
-    ensures { λ r. ⌜ record { result = r; main = now (storage .exit); store = now (store .exit); unit = now (unit .exit); answers = now (answers .exit) } ≡ hostCall (now (chain .entry)) (now (storage .entry)) (now (store .entry)) (now (unit .entry)) (now (answers .entry)) ⌝ }
+    ensures { λ r. ⌜ record { result = r; main = now (storage .exit); store = now (store .exit); unit = now (unit .exit); answers = now (answers .exit) }
+        ≡ hostCall (now (chain .entry)) (now (storage .entry)) (now (store .entry)) (now (unit .entry)) (now (answers .entry)) ⌝ }
 {
     let cause = cause_of(chain, storage, store, answers);
     if cause != 0 {

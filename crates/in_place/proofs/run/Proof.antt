@@ -28,7 +28,7 @@ use denote.Memory.{mem}
 use denote.Plain.{uint-makes}
 use denote.Builtin.{u8, u32}
 use denote.Ref.{RefT, MutRef, ptr-vals, mut-tells}
-use denote.Slice.{sliceVal, ShrSlice, MutSlice, Room, finally, slice-vals, mut-slice-tells, shr-slice-tells, shr-slice-lawful, shr-slice-copy}
+use denote.Slice.{ShrSlice, MutSlice, Room, finally, slice-vals, mut-slice-tells, shr-slice-tells, shr-slice-lawful, shr-slice-copy}
 use denote.Signature.{plain}
 use denote.Steps.{only, opens, closes, owned, peeks, heard, nothing}
 use denote.Struct.Steps.{spelt}
@@ -42,6 +42,7 @@ use denote.Triple.Clauses.{ensured, lasts}
 use denote.Triple.Walked.{says, Stays, stay-ref, stay-none-slice, gave-slice, walkOf, AllGo, goes-ref, goes-none-slice, goes-gave-slice, Walks, ends-at, walked, walk-meets}
 use denote.Exit.{yes}
 use Rattle.in_place.specs.Run.{After, Made}
+use Rattle.in_place.proofs.Lent.{mach, slice}
 use Rattle.model.specs.declared.record.Record.{Record}
 use Rattle.in_place.specs.declared.Ran.{Ran}
 use Rattle.model.proofs.record.Record as T
@@ -60,35 +61,10 @@ use Rattle.in_place.proofs.run.Code as code
 abbrev stayed : Stays (fn.ended .signature .params) (fn.ended .kept)
 stayed = (stay-ref (0 ∷ []) tt (plain (λ _. T.the-row)), (stay-none-slice (1 ∷ []) tt (plain (λ _. u8)) yes, (gave-slice (2 ∷ []) tt (plain (λ _. u8)), (gave-slice (3 ∷ []) tt (plain (λ _. u8)), (gave-slice (4 ∷ []) tt (plain (λ _. u8)), tt)))))
 
--- the machine value of a record
-abbrev mach : Record → Val
-mach h = LL.val T.the-type T′.the-laws h
-
 abbrev Core : {M : Type 1} (𝓤 : URA M) (H : Heap 𝓤) (A : Atoms 𝓤) (at-mem : Memory → SProp 𝓤) (run : Routine → Fun 𝓤) → Contract 𝓤
 Core 𝓤 H A at-mem run = tripleOf 𝓤 H A core.signature (core.spec 𝓤 H A at-mem run)
 
-module _ {M : Type 1} (𝓤 : URA M) (H : Heap 𝓤) (A : Atoms 𝓤) (W : Given 𝓤 H A) (at-mem : Memory → SProp 𝓤) (run : Routine → Fun 𝓤) (κ κ′ κ2 κ3 κ4 : Lft) (q q′ q2 q3 q4 : Share) (b o : ℕ) (γ : GName) (h : Record) (c : RefT (List ℕ)) (b0 o0 : ℕ) (γ0 : GName) (ys0 : List ℕ) (b1 o1 : ℕ) (γ1 : GName) (ys1 : List ℕ) (b2 o2 : ℕ) (γ2 : GName) (ys2 : List ℕ) where
-  abbrev cv : Val
-  cv = sliceVal (c .ptr) (length (c .now))
-
-  abbrev x0 : RefT (List ℕ)
-  x0 = record { ptr = (b0, o0); name = γ0; now = ys0 }
-
-  abbrev s0 : Val
-  s0 = sliceVal (b0, o0) (length ys0)
-
-  abbrev x1 : RefT (List ℕ)
-  x1 = record { ptr = (b1, o1); name = γ1; now = ys1 }
-
-  abbrev s1 : Val
-  s1 = sliceVal (b1, o1) (length ys1)
-
-  abbrev x2 : RefT (List ℕ)
-  x2 = record { ptr = (b2, o2); name = γ2; now = ys2 }
-
-  abbrev s2 : Val
-  s2 = sliceVal (b2, o2) (length ys2)
-
+module _ {M : Type 1} (𝓤 : URA M) (H : Heap 𝓤) (A : Atoms 𝓤) (W : Given 𝓤 H A) (at-mem : Memory → SProp 𝓤) (run : Routine → Fun 𝓤) (κ κ′ κ2 κ3 κ4 : Lft) (q q′ q2 q3 q4 : Share) (b o : ℕ) (γ : GName) (h : Record) (c x0 x1 x2 : RefT (List ℕ)) where
   abbrev Arg : Type 0
   Arg = RefT Record × (RefT (List ℕ) × (RefT (List ℕ) × (RefT (List ℕ) × (RefT (List ℕ) × Unit {0}))))
 
@@ -96,37 +72,37 @@ module _ {M : Type 1} (𝓤 : URA M) (H : Heap 𝓤) (A : Atoms 𝓤) (W : Given
   a = (record { ptr = (b, o); name = γ; now = h }, (c, (x0, (x1, (x2, tt)))))
 
   abbrev vals : List Val × (List Val × (List Val × (List Val × (List Val × Unit {0}))))
-  vals = (vptr b o ∷ [], (cv ∷ [], (s0 ∷ [], (s1 ∷ [], (s2 ∷ [], tt)))))
+  vals = (vptr b o ∷ [], (slice c ∷ [], (slice x0 ∷ [], (slice x1 ∷ [], (slice x2 ∷ [], tt)))))
 
   abbrev Post : Val → SProp 𝓤
   Post = walkOf 𝓤 H A fn.ended stayed (fn.clauses 𝓤 H A at-mem run) .post (((κ, (κ′, (κ2, (κ3, (κ4, tt))))), (q, (q′, (q2, (q3, (q4, tt))))), tt, a, vals), tt)
 
   -- what chain's borrow owns, which is copied
   abbrev Own : Fml
-  Own = ShrSlice (named 1) κ′ u8 .own c (cv ∷ [])
+  Own = ShrSlice (named 1) κ′ u8 .own c (slice c ∷ [])
 
   -- what the core's triple binds outside
   abbrev to : Core 𝓤 H A at-mem run .Ghost
-  to = (((κ′, (κ2, (κ3, (κ4, tt)))), (q′, (q2, (q3, (q4, tt)))), tt, (h, (c, (x0, (x1, (x2, tt))))), (mach h ∷ [], (cv ∷ [], (s0 ∷ [], (s1 ∷ [], (s2 ∷ [], tt)))))), tt)
+  to = (((κ′, (κ2, (κ3, (κ4, tt)))), (q′, (q2, (q3, (q4, tt)))), tt, (h, (c, (x0, (x1, (x2, tt))))), (mach h ∷ [], (slice c ∷ [], (slice x0 ∷ [], (slice x1 ∷ [], (slice x2 ∷ [], tt)))))), tt)
 
-  goes-core : ent 𝓤 (⋆ 𝓤 H A ((‵ (flft κ′ q′) ⊛ ‵ (flft κ2 q2) ⊛ ‵ (flft κ3 q3) ⊛ ‵ (flft κ4 q4) ⊛ ‵ ftrue) ∷ ‵ (owns (T.the-row ∷ ShrSlice (named 0) κ′ u8 ∷ MutSlice (named 1) κ2 u8 ∷ MutSlice (named 2) κ3 u8 ∷ MutSlice (named 3) κ4 u8 ∷ []) (h, (c, (x0, (x1, (x2, tt))))) (mach h ∷ [], (cv ∷ [], (s0 ∷ [], (s1 ∷ [], (s2 ∷ [], tt)))))) ∷ [])) (Core 𝓤 H A at-mem run .pre to)
-  goes-core = qed W ((‵ (flft κ′ q′) ⊛ ‵ (flft κ2 q2) ⊛ ‵ (flft κ3 q3) ⊛ ‵ (flft κ4 q4) ⊛ ‵ ftrue) ∷ ‵ (owns (T.the-row ∷ ShrSlice (named 0) κ′ u8 ∷ MutSlice (named 1) κ2 u8 ∷ MutSlice (named 2) κ3 u8 ∷ MutSlice (named 3) κ4 u8 ∷ []) (h, (c, (x0, (x1, (x2, tt))))) (mach h ∷ [], (cv ∷ [], (s0 ∷ [], (s1 ∷ [], (s2 ∷ [], tt)))))) ∷ []) ∵ join ! $ frame ! $ done !
+  goes-core : ent 𝓤 (⋆ 𝓤 H A ((‵ (flft κ′ q′) ⊛ ‵ (flft κ2 q2) ⊛ ‵ (flft κ3 q3) ⊛ ‵ (flft κ4 q4) ⊛ ‵ ftrue) ∷ ‵ (owns (T.the-row ∷ ShrSlice (named 0) κ′ u8 ∷ MutSlice (named 1) κ2 u8 ∷ MutSlice (named 2) κ3 u8 ∷ MutSlice (named 3) κ4 u8 ∷ []) (h, (c, (x0, (x1, (x2, tt))))) (mach h ∷ [], (slice c ∷ [], (slice x0 ∷ [], (slice x1 ∷ [], (slice x2 ∷ [], tt)))))) ∷ [])) (Core 𝓤 H A at-mem run .pre to)
+  goes-core = qed W ((‵ (flft κ′ q′) ⊛ ‵ (flft κ2 q2) ⊛ ‵ (flft κ3 q3) ⊛ ‵ (flft κ4 q4) ⊛ ‵ ftrue) ∷ ‵ (owns (T.the-row ∷ ShrSlice (named 0) κ′ u8 ∷ MutSlice (named 1) κ2 u8 ∷ MutSlice (named 2) κ3 u8 ∷ MutSlice (named 3) κ4 u8 ∷ []) (h, (c, (x0, (x1, (x2, tt))))) (mach h ∷ [], (slice c ∷ [], (slice x0 ∷ [], (slice x1 ∷ [], (slice x2 ∷ [], tt)))))) ∷ []) ∵ join ! $ frame ! $ done !
 
-  exits : (r : Ran) (z0 z1 z2 : List ℕ) → r .code < 2 ^ 32 → After h (c .now) ys0 ys1 ys2 r z0 z1 z2 → length z0 ≡ length ys0 → length z1 ≡ length ys1 → length z2 ≡ length ys2
-      → ent 𝓤 (⋆ 𝓤 H A (‵ (fobs γ (T.the-row .coded .code (r .unit))) ∷ ‵ (fbor κ (Body (mem (T.the-row)) b o γ)) ∷ ‵ (flft κ q) ∷ (‵ (flft κ′ q′) ⊛ ‵ (flft κ2 q2) ⊛ ‵ (flft κ3 q3) ⊛ ‵ (flft κ4 q4) ⊛ ‵ ftrue) ∷ ‵ (finally u8 γ0 z0) ∷ ‵ (finally u8 γ1 z1) ∷ ‵ (finally u8 γ2 z2) ∷ ‵ Own ∷ [])) (Post (vint w32 (r .code)))
+  exits : (r : Ran) (z0 z1 z2 : List ℕ) → r .code < 2 ^ 32 → After h (c .now) (x0 .now) (x1 .now) (x2 .now) r z0 z1 z2 → length z0 ≡ length (x0 .now) → length z1 ≡ length (x1 .now) → length z2 ≡ length (x2 .now)
+      → ent 𝓤 (⋆ 𝓤 H A (‵ (fobs γ (T.the-row .coded .code (r .unit))) ∷ ‵ (fbor κ (Body (mem (T.the-row)) b o γ)) ∷ ‵ (flft κ q) ∷ (‵ (flft κ′ q′) ⊛ ‵ (flft κ2 q2) ⊛ ‵ (flft κ3 q3) ⊛ ‵ (flft κ4 q4) ⊛ ‵ ftrue) ∷ ‵ (finally u8 (x0 .name) z0) ∷ ‵ (finally u8 (x1 .name) z1) ∷ ‵ (finally u8 (x2 .name) z2) ∷ ‵ Own ∷ [])) (Post (vint w32 (r .code)))
   exits r z0 z1 z2 fits e l0 l1 l2 =
-      qed W (‵ (fobs γ (T.the-row .coded .code (r .unit))) ∷ ‵ (fbor κ (Body (mem (T.the-row)) b o γ)) ∷ ‵ (flft κ q) ∷ (‵ (flft κ′ q′) ⊛ ‵ (flft κ2 q2) ⊛ ‵ (flft κ3 q3) ⊛ ‵ (flft κ4 q4) ⊛ ‵ ftrue) ∷ ‵ (finally u8 γ0 z0) ∷ ‵ (finally u8 γ1 z1) ∷ ‵ (finally u8 γ2 z2) ∷ ‵ Own ∷ []) ∵
+      qed W (‵ (fobs γ (T.the-row .coded .code (r .unit))) ∷ ‵ (fbor κ (Body (mem (T.the-row)) b o γ)) ∷ ‵ (flft κ q) ∷ (‵ (flft κ′ q′) ⊛ ‵ (flft κ2 q2) ⊛ ‵ (flft κ3 q3) ⊛ ‵ (flft κ4 q4) ⊛ ‵ ftrue) ∷ ‵ (finally u8 (x0 .name) z0) ∷ ‵ (finally u8 (x1 .name) z1) ∷ ‵ (finally u8 (x2 .name) z2) ∷ ‵ Own ∷ []) ∵
       suffices ! _ (ends-at 𝓤 H A fn.ended stayed (fn.clauses 𝓤 H A at-mem run) W (((κ, (κ′, (κ2, (κ3, (κ4, tt))))), (q, (q′, (q2, (q3, (q4, tt))))), tt, a, vals), tt) (vint w32 (r .code)) (r .code) (r .unit, (tt, (z0, (z1, (z2, tt))))) (tt, (tt, (l0, (l1, (l2, tt)))))) $
       says ! (record { is = e .is }) $ move ! (2 ∷ 3 ∷ []) $ join ! $ frame ! $
       feqI ! (List Val) (vptr b o ∷ []) (vptr b o ∷ []) refl $ fjoin3 ! $ nothing ! $ move ! (4 ∷ 0 ∷ []) $ fjoin ! $ move ! (3 ∷ 0 ∷ []) $ fjoin ! $ move ! (2 ∷ 0 ∷ []) $ fjoin ! $ move ! (2 ∷ 0 ∷ []) $ fjoin ! $ move ! (1 ∷ 0 ∷ []) $ fjoin ! $
       owned ! u32 (Is u32) (uint-makes 𝓤 H A W w32) (r .code) _ (refl, fits) $ move ! (1 ∷ 0 ∷ []) $ done !
 
   module _ (C : Calls 𝓤 H) (Λ : Loops 𝓤 H) (fm : FmC 𝓤 H (W .laws) C) (known : Triple 𝓤 (C #core) (Core 𝓤 H A at-mem run)) where
-    walk : Is (ShrSlice (named 1) κ′ u8) c (cv ∷ []) → Room u8 (length ys0) → Room u8 (length ys1) → Room u8 (length ys2) → ent 𝓤 (onEntry 𝓤 H A fn.signature (κ, (κ′, (κ2, (κ3, (κ4, tt))))) (q, (q′, (q2, (q3, (q4, tt))))) a vals) (WpFn 𝓤 H C Λ code.function (vptr b o ∷ cv ∷ s0 ∷ s1 ∷ s2 ∷ []) Post)
+    walk : Is (ShrSlice (named 1) κ′ u8) c (slice c ∷ []) → Room u8 (length (x0 .now)) → Room u8 (length (x1 .now)) → Room u8 (length (x2 .now)) → ent 𝓤 (onEntry 𝓤 H A fn.signature (κ, (κ′, (κ2, (κ3, (κ4, tt))))) (q, (q′, (q2, (q3, (q4, tt))))) a vals) (WpFn 𝓤 H C Λ code.function (vptr b o ∷ slice c ∷ slice x0 ∷ slice x1 ∷ slice x2 ∷ []) Post)
     walk p room0 room1 room2 =
-        qed W ((‵ (flft κ q) ⊛ ‵ (flft κ′ q′) ⊛ ‵ (flft κ2 q2) ⊛ ‵ (flft κ3 q3) ⊛ ‵ (flft κ4 q4) ⊛ ‵ ftrue) ∷ ‵ (owns (MutRef (named 0) κ T.the-row ∷ ShrSlice (named 1) κ′ u8 ∷ MutSlice (named 2) κ2 u8 ∷ MutSlice (named 3) κ3 u8 ∷ MutSlice (named 4) κ4 u8 ∷ []) a vals) ∷ []) ∵ enter ! C Λ code.function (vptr b o ∷ cv ∷ s0 ∷ s1 ∷ s2 ∷ []) _ $
+        qed W ((‵ (flft κ q) ⊛ ‵ (flft κ′ q′) ⊛ ‵ (flft κ2 q2) ⊛ ‵ (flft κ3 q3) ⊛ ‵ (flft κ4 q4) ⊛ ‵ ftrue) ∷ ‵ (owns (MutRef (named 0) κ T.the-row ∷ ShrSlice (named 1) κ′ u8 ∷ MutSlice (named 2) κ2 u8 ∷ MutSlice (named 3) κ3 u8 ∷ MutSlice (named 4) κ4 u8 ∷ []) a vals) ∷ []) ∵ enter ! C Λ code.function (vptr b o ∷ slice c ∷ slice x0 ∷ slice x1 ∷ slice x2 ∷ []) _ $
         alloc1 ! (λ m0. alloc1 ! (λ m1. alloc1 ! (λ m2. alloc1 ! (λ m3. alloc1 ! (λ m4. alloc1 ! (λ m5. alloc1 ! (λ m6. alloc1 ! (λ m7. alloc1 ! (λ m8. alloc1 ! (λ m9. alloc1 ! (λ m10. alloc1 ! (λ m11. alloc1 ! (λ m12. alloc1 ! (λ m13. alloc0 ! $ params1 ! $
-        pass1 ! (init ! 24 refl (tt, tt)) $ pass1 ! (init ! 22 refl (shr-slice-lawful 𝓤 H A W (named 1) κ′ u8 .typed c (cv ∷ []) p .0)) $ pass1 ! (init ! 20 refl (tt, (tt, (record { fits = room0 .0 }, tt)))) $ pass1 ! (init ! 18 refl (tt, (tt, (record { fits = room1 .0 }, tt)))) $ pass1 ! (init ! 16 refl (tt, (tt, (record { fits = room2 .0 }, tt)))) $ pass0 ! $
+        pass1 ! (init ! 24 refl (tt, tt)) $ pass1 ! (init ! 22 refl (shr-slice-lawful 𝓤 H A W (named 1) κ′ u8 .typed c (slice c ∷ []) p .0)) $ pass1 ! (init ! 20 refl (tt, (tt, (record { fits = room0 .0 }, tt)))) $ pass1 ! (init ! 18 refl (tt, (tt, (record { fits = room1 .0 }, tt)))) $ pass1 ! (init ! 16 refl (tt, (tt, (record { fits = room2 .0 }, tt)))) $ pass0 ! $
         -- the record's borrow is opened
         move ! (29 ∷ []) $ fsplit ! $ fsplit3 ! $ drop ! $ move ! (31 ∷ []) $ split ! $ move ! (2 ∷ 3 ∷ 0 ∷ []) $
         opens ! tt (T.the-row) {h = h} b o (λ vs. spelt ! (T.the-row) (Is (T.the-row)) (shows 𝓤 H A (T.the-row)) (LL.vals T.the-type T′.the-laws) (LL.tells T.the-type T′.the-laws) fullShare h vs b o $
@@ -140,13 +116,13 @@ module _ {M : Type 1} (𝓤 : URA M) (H : Heap 𝓤) (A : Atoms 𝓤) (W : Given
         assigns ! (addr ! (from ! (fld ! refl (hop ! (look-in ! 23 (sub ! 0 refl (whole !))) (stop !))))) (from ! (stop !)) (init ! 9 refl (tt, tt)) $
         assigns ! (agg ! (and-then ! (load ! (from ! (stop !)) (look ! 9 refl)) (and-then ! (load ! (from ! (fld ! refl (stop !))) (look-in ! 23 (sub ! 1 refl (whole !)))) (no-more !)))) (from ! (stop !)) (init ! 7 refl (tt, (tt, (record { fits = room2 .0 }, tt)))) $
         -- what the callee asks is put together; one copy of what chain owns is kept
-        move ! (6 ∷ []) $ fsplit ! $ use1 W (‵ Own ⊛ ‵ Own) (shr-slice-copy 𝓤 H A W (named 1) κ′ u8 .twice c (cv ∷ [])) $ split ! $
+        move ! (6 ∷ []) $ fsplit ! $ use1 W (‵ Own ⊛ ‵ Own) (shr-slice-copy 𝓤 H A W (named 1) κ′ u8 .twice c (slice c ∷ [])) $ split ! $
         move ! (1 ∷ 2 ∷ []) $ fjoin ! $ move ! (2 ∷ 0 ∷ []) $ fjoin ! $ move ! (6 ∷ 0 ∷ []) $ use2 W (raw (Core 𝓤 H A at-mem run .pre to)) goes-core $
         -- [the callee's pre; what chain owns; the cell; the open borrow; obs; auth; the locals]
         calls-at ! fm (Core 𝓤 H A at-mem run) known to (and-then ! (load ! (from ! (stop !)) (look ! 18 refl)) (and-then ! (load ! (from ! (stop !)) (look ! 28 refl)) (and-then ! (load ! (from ! (stop !)) (look ! 14 refl)) (and-then ! (load ! (from ! (stop !)) (look ! 10 refl)) (and-then ! (load ! (from ! (stop !)) (look ! 6 refl)) (no-more !)))))) (λ w.
         use1 W (later (some (λ (r : Ran). ((‵ (flft κ′ q′) ⊛ ‵ (flft κ2 q2) ⊛ ‵ (flft κ3 q3) ⊛ ‵ (flft κ4 q4) ⊛ ‵ ftrue) ⊛ ‵ (N.the-row .own r (w ∷ []))) ⊛ raw (ensured 𝓤 H A core.ended (core.clauses 𝓤 H A at-mem run) (κ′, (κ2, (κ3, (κ4, tt)))) (h, (c, (x0, (x1, (x2, tt))))) tt r)))) (id⊢ 𝓤 _) $ await ! tt $ pick ! (λ r.
-        split ! $ move ! (1 ∷ []) $ use1 W (some (λ (zs : Unit {0} × (Unit {0} × (List ℕ × (List ℕ × (List ℕ × Unit {0}))))). ‵ (lasts core.ended (κ′, (κ2, (κ3, (κ4, tt)))) (h, (c, (x0, (x1, (x2, tt))))) zs) ⊛ raw (fact 𝓤 (After h (c .now) ys0 ys1 ys2 r (zs .1 .1 .0) (zs .1 .1 .1 .0) (zs .1 .1 .1 .1 .0))))) (id⊢ 𝓤 _) $ pick ! (λ zs.
-        split ! $ move ! (1 ∷ []) $ heard ! (After h (c .now) ys0 ys1 ys2 r (zs .1 .1 .0) (zs .1 .1 .1 .0) (zs .1 .1 .1 .1 .0)) (λ e. fsplit ! $ move ! (1 ∷ []) $ fsplit ! $ move ! (1 ∷ []) $ fsplit ! $ fsplit ! $ move ! (1 ∷ []) $ feqL ! (λ l0. move ! (1 ∷ []) $ fsplit ! $ fsplit ! $ move ! (1 ∷ []) $ feqL ! (λ l1. move ! (1 ∷ []) $ fsplit ! $ fsplit ! $ move ! (1 ∷ []) $ feqL ! (λ l2.
+        split ! $ move ! (1 ∷ []) $ use1 W (some (λ (zs : Unit {0} × (Unit {0} × (List ℕ × (List ℕ × (List ℕ × Unit {0}))))). ‵ (lasts core.ended (κ′, (κ2, (κ3, (κ4, tt)))) (h, (c, (x0, (x1, (x2, tt))))) zs) ⊛ raw (fact 𝓤 (After h (c .now) (x0 .now) (x1 .now) (x2 .now) r (zs .1 .1 .0) (zs .1 .1 .1 .0) (zs .1 .1 .1 .1 .0))))) (id⊢ 𝓤 _) $ pick ! (λ zs.
+        split ! $ move ! (1 ∷ []) $ heard ! (After h (c .now) (x0 .now) (x1 .now) (x2 .now) r (zs .1 .1 .0) (zs .1 .1 .1 .0) (zs .1 .1 .1 .1 .0)) (λ e. fsplit ! $ move ! (1 ∷ []) $ fsplit ! $ move ! (1 ∷ []) $ fsplit ! $ fsplit ! $ move ! (1 ∷ []) $ feqL ! (λ l0. move ! (1 ∷ []) $ fsplit ! $ fsplit ! $ move ! (1 ∷ []) $ feqL ! (λ l1. move ! (1 ∷ []) $ fsplit ! $ fsplit ! $ move ! (1 ∷ []) $ feqL ! (λ l2.
         move ! (6 ∷ []) $ split ! $ move ! (1 ∷ []) $ peeks ! N.the-row (Is N.the-row) (shows 𝓤 H A N.the-row) r (w ∷ []) (λ is.
         land ! (from ! (stop !)) (init ! 27 refl (LL.lawful N.the-type N′.the-laws 𝓤 H A W .typed r _ is .0)) $
         rewrite ! 27 (λ (u : Val). ‵ (fat fullShare N′.mir m6 0 u)) (ap only (LL.tells N.the-type N′.the-laws r _ is)) refl $
@@ -163,7 +139,7 @@ module _ {M : Type 1} (𝓤 : URA M) (H : Heap 𝓤) (A : Atoms 𝓤) (W : Given
 module _ {M : Type 1} (𝓤 : URA M) (H : Heap 𝓤) (A : Atoms 𝓤) (W : Given 𝓤 H A) (at-mem : Memory → SProp 𝓤) (run : Routine → Fun 𝓤) where
   walks : (C : Calls 𝓤 H) (Λ : Loops 𝓤 H) → FmC 𝓤 H (W .laws) C → Triple 𝓤 (C #core) (Core 𝓤 H A at-mem run) → Walks 𝓤 H A fn.ended stayed (WpFn 𝓤 H C Λ code.function) (fn.clauses 𝓤 H A at-mem run)
   walks C Λ fm known = walked 𝓤 H A fn.ended stayed (fn.clauses 𝓤 H A at-mem run) (WpFn 𝓤 H C Λ code.function) (λ κs. (ptr-vals, (slice-vals, (slice-vals, (slice-vals, (slice-vals, tt)))))) (λ κs. (mut-tells (named 0) (κs .0) (T.the-row), (shr-slice-tells (named 1) (κs .1 .0) u8, (mut-slice-tells (named 2) (κs .1 .1 .0) u8, (mut-slice-tells (named 3) (κs .1 .1 .1 .0) u8, (mut-slice-tells (named 4) (κs .1 .1 .1 .1 .0) u8, tt))))))
-      (λ κs qs bounds a _ are. via 𝓤 _ (fst∗ 𝓤 _ (emp 𝓤)) (walk 𝓤 H A W at-mem run (κs .0) (κs .1 .0) (κs .1 .1 .0) (κs .1 .1 .1 .0) (κs .1 .1 .1 .1 .0) (qs .0) (qs .1 .0) (qs .1 .1 .0) (qs .1 .1 .1 .0) (qs .1 .1 .1 .1 .0) (a .0 .ptr .0) (a .0 .ptr .1) (a .0 .name) (a .0 .now) (a .1 .0) (a .1 .1 .0 .ptr .0) (a .1 .1 .0 .ptr .1) (a .1 .1 .0 .name) (a .1 .1 .0 .now) (a .1 .1 .1 .0 .ptr .0) (a .1 .1 .1 .0 .ptr .1) (a .1 .1 .1 .0 .name) (a .1 .1 .1 .0 .now) (a .1 .1 .1 .1 .0 .ptr .0) (a .1 .1 .1 .1 .0 .ptr .1) (a .1 .1 .1 .1 .0 .name) (a .1 .1 .1 .1 .0 .now) C Λ fm known (are .1 .0) (are .1 .1 .0 .0 .1) (are .1 .1 .1 .0 .0 .1) (are .1 .1 .1 .1 .0 .0 .1)))
+      (λ κs qs bounds a _ are. via 𝓤 _ (fst∗ 𝓤 _ (emp 𝓤)) (walk 𝓤 H A W at-mem run (κs .0) (κs .1 .0) (κs .1 .1 .0) (κs .1 .1 .1 .0) (κs .1 .1 .1 .1 .0) (qs .0) (qs .1 .0) (qs .1 .1 .0) (qs .1 .1 .1 .0) (qs .1 .1 .1 .1 .0) (a .0 .ptr .0) (a .0 .ptr .1) (a .0 .name) (a .0 .now) (a .1 .0) (a .1 .1 .0) (a .1 .1 .1 .0) (a .1 .1 .1 .1 .0) C Λ fm known (are .1 .0) (are .1 .1 .0 .0 .1) (are .1 .1 .1 .0 .0 .1) (are .1 .1 .1 .1 .0 .0 .1)))
 
   goes : AllGo 𝓤 H A W 5 (fn.signature .params) (fn.ended .kept) stayed
   goes = (goes-ref 𝓤 H A W 5 0 tt (plain (λ _. T.the-row)), (goes-none-slice 𝓤 H A W 5 (1 ∷ []) tt (plain (λ _. u8)) yes, (goes-gave-slice 𝓤 H A W 5 2 tt (plain (λ _. u8)), (goes-gave-slice 𝓤 H A W 5 3 tt (plain (λ _. u8)), (goes-gave-slice 𝓤 H A W 5 4 tt (plain (λ _. u8)), tt)))))

@@ -30,7 +30,7 @@ use denote.Memory.{mem, cellAt, partAt, partOf}
 use denote.Plain.{uint-lawful}
 use denote.Builtin.{u8, u32}
 use denote.Ref.{RefT, MutRef}
-use denote.Slice.{sliceVal, ShrSlice, MutSlice, Room, finally, slice-vals, mut-slice-tells, shr-slice-tells, shr-slice-lawful, shr-slice-copy}
+use denote.Slice.{ShrSlice, MutSlice, Room, finally, slice-vals, mut-slice-tells, shr-slice-tells, shr-slice-lawful, shr-slice-copy}
 use denote.Signature.{plain}
 use denote.Steps.{only, owned, peeks, heard, nothing}
 use denote.Struct.Steps.{spelt}
@@ -44,6 +44,7 @@ use denote.Triple.Clauses.{ensured, lasts}
 use denote.Triple.Walked.{says, Stays, stay-none, stay-none-slice, gave-slice, walkOf, AllGo, goes-none, goes-none-slice, goes-gave-slice, Walks, ends-at, walked, walk-meets}
 use denote.Exit.{yes}
 use Rattle.in_place.specs.Run.{After, Made}
+use Rattle.in_place.proofs.Lent.{mach, slice}
 use Rattle.model.specs.declared.record.Record.{Record}
 use Rattle.in_place.specs.declared.Ran.{Ran}
 use Rattle.model.proofs.record.Record as T
@@ -65,10 +66,6 @@ R = T.the-row
 abbrev stayed : Stays (fn.ended .signature .params) (fn.ended .kept)
 stayed = (stay-none (λ _. R) yes, (stay-none-slice (0 ∷ []) tt (plain (λ _. u8)) yes, (gave-slice (1 ∷ []) tt (plain (λ _. u8)), (gave-slice (2 ∷ []) tt (plain (λ _. u8)), (gave-slice (3 ∷ []) tt (plain (λ _. u8)), tt)))))
 
--- the machine value of a record
-abbrev mach : Record → Val
-mach h = LL.val T.the-type T′.the-laws h
-
 abbrev Core : {M : Type 1} (𝓤 : URA M) (H : Heap 𝓤) (A : Atoms 𝓤) (at-mem : Memory → SProp 𝓤) (run : Routine → Fun 𝓤) → Contract 𝓤
 Core 𝓤 H A at-mem run = tripleOf 𝓤 H A core.signature (core.spec 𝓤 H A at-mem run)
 
@@ -86,28 +83,7 @@ module _ {M : Type 1} (𝓤 : URA M) (H : Heap 𝓤) (A : Atoms 𝓤) (W : Given
       qed W (‵ (partAt R fullShare h l 0) ∷ []) ∵ fpick ! (λ vs. fsplit ! $ spelt ! R (Is R) (shows 𝓤 H A R) (LL.vals T.the-type T′.the-laws) (LL.tells T.the-type T′.the-laws) fullShare h vs l 0 $
       use1 W (‵ (fat fullShare T′.mir l 0 (mach h))) (W .laws .raw-at fullShare T′.mir l 0 (mach h)) $ frame ! $ done !)
 
-module _ {M : Type 1} (𝓤 : URA M) (H : Heap 𝓤) (A : Atoms 𝓤) (W : Given 𝓤 H A) (at-mem : Memory → SProp 𝓤) (run : Routine → Fun 𝓤) (κ0 κ1 κ2 κ3 : Lft) (q0 q1 q2 q3 : Share) (h : Record) (g : Is R h (mach h ∷ [])) (c : RefT (List ℕ)) (b0 o0 : ℕ) (γ0 : GName) (ys0 : List ℕ) (b1 o1 : ℕ) (γ1 : GName) (ys1 : List ℕ) (b2 o2 : ℕ) (γ2 : GName) (ys2 : List ℕ) where
-  abbrev cv : Val
-  cv = sliceVal (c .ptr) (length (c .now))
-
-  abbrev x0 : RefT (List ℕ)
-  x0 = record { ptr = (b0, o0); name = γ0; now = ys0 }
-
-  abbrev s0 : Val
-  s0 = sliceVal (b0, o0) (length ys0)
-
-  abbrev x1 : RefT (List ℕ)
-  x1 = record { ptr = (b1, o1); name = γ1; now = ys1 }
-
-  abbrev s1 : Val
-  s1 = sliceVal (b1, o1) (length ys1)
-
-  abbrev x2 : RefT (List ℕ)
-  x2 = record { ptr = (b2, o2); name = γ2; now = ys2 }
-
-  abbrev s2 : Val
-  s2 = sliceVal (b2, o2) (length ys2)
-
+module _ {M : Type 1} (𝓤 : URA M) (H : Heap 𝓤) (A : Atoms 𝓤) (W : Given 𝓤 H A) (at-mem : Memory → SProp 𝓤) (run : Routine → Fun 𝓤) (κ0 κ1 κ2 κ3 : Lft) (q0 q1 q2 q3 : Share) (h : Record) (g : Is R h (mach h ∷ [])) (c x0 x1 x2 : RefT (List ℕ)) where
   abbrev Arg : Type 0
   Arg = Record × (RefT (List ℕ) × (RefT (List ℕ) × (RefT (List ℕ) × (RefT (List ℕ) × Unit {0}))))
 
@@ -115,23 +91,23 @@ module _ {M : Type 1} (𝓤 : URA M) (H : Heap 𝓤) (A : Atoms 𝓤) (W : Given
   a = (h, (c, (x0, (x1, (x2, tt)))))
 
   abbrev vals : List Val × (List Val × (List Val × (List Val × (List Val × Unit {0}))))
-  vals = (mach h ∷ [], (cv ∷ [], (s0 ∷ [], (s1 ∷ [], (s2 ∷ [], tt)))))
+  vals = (mach h ∷ [], (slice c ∷ [], (slice x0 ∷ [], (slice x1 ∷ [], (slice x2 ∷ [], tt)))))
 
   abbrev Post : Val → SProp 𝓤
   Post = walkOf 𝓤 H A fn.ended stayed (fn.clauses 𝓤 H A at-mem run) .post (((κ0, (κ1, (κ2, (κ3, tt)))), (q0, (q1, (q2, (q3, tt)))), tt, a, vals), tt)
 
   abbrev Own : Fml
-  Own = ShrSlice (named 0) κ0 u8 .own c (cv ∷ [])
+  Own = ShrSlice (named 0) κ0 u8 .own c (slice c ∷ [])
 
   -- the local's reference, and what the callee's triple binds outside
   abbrev x : ℕ → GName → RefT Record
   x l δ = record { ptr = (l, 0); name = δ; now = h }
 
   abbrev to : ℕ → ℕ → GName → Core 𝓤 H A at-mem run .Ghost
-  to l ν δ = (((ν ∷ [], (κ0, (κ1, (κ2, (κ3, tt))))), (fullShare, (q0, (q1, (q2, (q3, tt))))), tt, (x l δ, (c, (x0, (x1, (x2, tt))))), (vptr l 0 ∷ [], (cv ∷ [], (s0 ∷ [], (s1 ∷ [], (s2 ∷ [], tt)))))), tt)
+  to l ν δ = (((ν ∷ [], (κ0, (κ1, (κ2, (κ3, tt))))), (fullShare, (q0, (q1, (q2, (q3, tt))))), tt, (x l δ, (c, (x0, (x1, (x2, tt))))), (vptr l 0 ∷ [], (slice c ∷ [], (slice x0 ∷ [], (slice x1 ∷ [], (slice x2 ∷ [], tt)))))), tt)
 
-  goes : (l ν : ℕ) (δ : GName) → ent 𝓤 (⋆ 𝓤 H A ((‵ (flft (ν ∷ []) fullShare) ⊛ ‵ (flft κ0 q0) ⊛ ‵ (flft κ1 q1) ⊛ ‵ (flft κ2 q2) ⊛ ‵ (flft κ3 q3) ⊛ ‵ ftrue) ∷ ‵ (owns (MutRef (named 0) (ν ∷ []) R ∷ ShrSlice (named 1) κ0 u8 ∷ MutSlice (named 2) κ1 u8 ∷ MutSlice (named 3) κ2 u8 ∷ MutSlice (named 4) κ3 u8 ∷ []) (x l δ, (c, (x0, (x1, (x2, tt))))) (vptr l 0 ∷ [], (cv ∷ [], (s0 ∷ [], (s1 ∷ [], (s2 ∷ [], tt)))))) ∷ [])) (Core 𝓤 H A at-mem run .pre (to l ν δ))
-  goes l ν δ = qed W ((‵ (flft (ν ∷ []) fullShare) ⊛ ‵ (flft κ0 q0) ⊛ ‵ (flft κ1 q1) ⊛ ‵ (flft κ2 q2) ⊛ ‵ (flft κ3 q3) ⊛ ‵ ftrue) ∷ ‵ (owns (MutRef (named 0) (ν ∷ []) R ∷ ShrSlice (named 1) κ0 u8 ∷ MutSlice (named 2) κ1 u8 ∷ MutSlice (named 3) κ2 u8 ∷ MutSlice (named 4) κ3 u8 ∷ []) (x l δ, (c, (x0, (x1, (x2, tt))))) (vptr l 0 ∷ [], (cv ∷ [], (s0 ∷ [], (s1 ∷ [], (s2 ∷ [], tt)))))) ∷ []) ∵ join ! $ frame ! $ done !
+  goes : (l ν : ℕ) (δ : GName) → ent 𝓤 (⋆ 𝓤 H A ((‵ (flft (ν ∷ []) fullShare) ⊛ ‵ (flft κ0 q0) ⊛ ‵ (flft κ1 q1) ⊛ ‵ (flft κ2 q2) ⊛ ‵ (flft κ3 q3) ⊛ ‵ ftrue) ∷ ‵ (owns (MutRef (named 0) (ν ∷ []) R ∷ ShrSlice (named 1) κ0 u8 ∷ MutSlice (named 2) κ1 u8 ∷ MutSlice (named 3) κ2 u8 ∷ MutSlice (named 4) κ3 u8 ∷ []) (x l δ, (c, (x0, (x1, (x2, tt))))) (vptr l 0 ∷ [], (slice c ∷ [], (slice x0 ∷ [], (slice x1 ∷ [], (slice x2 ∷ [], tt)))))) ∷ [])) (Core 𝓤 H A at-mem run .pre (to l ν δ))
+  goes l ν δ = qed W ((‵ (flft (ν ∷ []) fullShare) ⊛ ‵ (flft κ0 q0) ⊛ ‵ (flft κ1 q1) ⊛ ‵ (flft κ2 q2) ⊛ ‵ (flft κ3 q3) ⊛ ‵ ftrue) ∷ ‵ (owns (MutRef (named 0) (ν ∷ []) R ∷ ShrSlice (named 1) κ0 u8 ∷ MutSlice (named 2) κ1 u8 ∷ MutSlice (named 3) κ2 u8 ∷ MutSlice (named 4) κ3 u8 ∷ []) (x l δ, (c, (x0, (x1, (x2, tt))))) (vptr l 0 ∷ [], (slice c ∷ [], (slice x0 ∷ [], (slice x1 ∷ [], (slice x2 ∷ [], tt)))))) ∷ []) ∵ join ! $ frame ! $ done !
 
   -- the result
   abbrev ran : Record → ℕ → Ran
@@ -140,20 +116,20 @@ module _ {M : Type 1} (𝓤 : URA M) (H : Heap 𝓤) (A : Atoms 𝓤) (W : Given
   is-ran : (h′ : Record) (r : ℕ) → Is R h′ (mach h′ ∷ []) → r < 2 ^ 32 → Is N.the-row (ran h′ r) (LL.vals N.the-type N′.the-laws (ran h′ r))
   is-ran h′ r g′ fits = LL.owes N.the-type N′.the-laws (ran h′ r) (g′, ((refl, fits), tt))
 
-  exits : (h′ : Record) (r : ℕ) (z0 z1 z2 : List ℕ) → Is R h′ (mach h′ ∷ []) → r < 2 ^ 32 → Made h (c .now) ys0 ys1 ys2 r h′ z0 z1 z2 → length z0 ≡ length ys0 → length z1 ≡ length ys1 → length z2 ≡ length ys2
-      → ent 𝓤 (⋆ 𝓤 H A ((‵ (flft κ0 q0) ⊛ ‵ (flft κ1 q1) ⊛ ‵ (flft κ2 q2) ⊛ ‵ (flft κ3 q3) ⊛ ‵ ftrue) ∷ ‵ (finally u8 γ0 z0) ∷ ‵ (finally u8 γ1 z1) ∷ ‵ (finally u8 γ2 z2) ∷ ‵ Own ∷ [])) (Post (LL.val N.the-type N′.the-laws (ran h′ r)))
+  exits : (h′ : Record) (r : ℕ) (z0 z1 z2 : List ℕ) → Is R h′ (mach h′ ∷ []) → r < 2 ^ 32 → Made h (c .now) (x0 .now) (x1 .now) (x2 .now) r h′ z0 z1 z2 → length z0 ≡ length (x0 .now) → length z1 ≡ length (x1 .now) → length z2 ≡ length (x2 .now)
+      → ent 𝓤 (⋆ 𝓤 H A ((‵ (flft κ0 q0) ⊛ ‵ (flft κ1 q1) ⊛ ‵ (flft κ2 q2) ⊛ ‵ (flft κ3 q3) ⊛ ‵ ftrue) ∷ ‵ (finally u8 (x0 .name) z0) ∷ ‵ (finally u8 (x1 .name) z1) ∷ ‵ (finally u8 (x2 .name) z2) ∷ ‵ Own ∷ [])) (Post (LL.val N.the-type N′.the-laws (ran h′ r)))
   exits h′ r z0 z1 z2 g′ fits e l0 l1 l2 =
-      qed W ((‵ (flft κ0 q0) ⊛ ‵ (flft κ1 q1) ⊛ ‵ (flft κ2 q2) ⊛ ‵ (flft κ3 q3) ⊛ ‵ ftrue) ∷ ‵ (finally u8 γ0 z0) ∷ ‵ (finally u8 γ1 z1) ∷ ‵ (finally u8 γ2 z2) ∷ ‵ Own ∷ []) ∵
+      qed W ((‵ (flft κ0 q0) ⊛ ‵ (flft κ1 q1) ⊛ ‵ (flft κ2 q2) ⊛ ‵ (flft κ3 q3) ⊛ ‵ ftrue) ∷ ‵ (finally u8 (x0 .name) z0) ∷ ‵ (finally u8 (x1 .name) z1) ∷ ‵ (finally u8 (x2 .name) z2) ∷ ‵ Own ∷ []) ∵
       suffices ! _ (ends-at 𝓤 H A fn.ended stayed (fn.clauses 𝓤 H A at-mem run) W (((κ0, (κ1, (κ2, (κ3, tt)))), (q0, (q1, (q2, (q3, tt)))), tt, a, vals), tt) (LL.val N.the-type N′.the-laws (ran h′ r)) (ran h′ r) (tt, (tt, (z0, (z1, (z2, tt))))) (tt, (tt, (l0, (l1, (l2, tt)))))) $
       says ! (record { is = e .is }) $ frame ! $ nothing ! $ move ! (3 ∷ 0 ∷ []) $ fjoin ! $ move ! (2 ∷ 0 ∷ []) $ fjoin ! $ move ! (1 ∷ 0 ∷ []) $ fjoin ! $ move ! (1 ∷ 0 ∷ []) $ fjoin ! $ owned ! R (Is R) ((LL.makes T.the-type T′.the-plain) 𝓤 H A) h _ g $ fjoin ! $
       owned ! N.the-row (Is N.the-row) ((LL.makes N.the-type N′.the-plain) 𝓤 H A) (ran h′ r) _ (is-ran h′ r g′ fits) $ move ! (1 ∷ 0 ∷ []) $ done !
 
   module _ (C : Calls 𝓤 H) (Λ : Loops 𝓤 H) (fm : FmC 𝓤 H (W .laws) C) (known : Triple 𝓤 (C #core) (Core 𝓤 H A at-mem run)) where
-    walk : Is (ShrSlice (named 0) κ0 u8) c (cv ∷ []) → Room u8 (length ys0) → Room u8 (length ys1) → Room u8 (length ys2) → ent 𝓤 (onEntry 𝓤 H A fn.signature (κ0, (κ1, (κ2, (κ3, tt)))) (q0, (q1, (q2, (q3, tt)))) a vals) (WpFn 𝓤 H C Λ code.function (mach h ∷ cv ∷ s0 ∷ s1 ∷ s2 ∷ []) Post)
+    walk : Is (ShrSlice (named 0) κ0 u8) c (slice c ∷ []) → Room u8 (length (x0 .now)) → Room u8 (length (x1 .now)) → Room u8 (length (x2 .now)) → ent 𝓤 (onEntry 𝓤 H A fn.signature (κ0, (κ1, (κ2, (κ3, tt)))) (q0, (q1, (q2, (q3, tt)))) a vals) (WpFn 𝓤 H C Λ code.function (mach h ∷ slice c ∷ slice x0 ∷ slice x1 ∷ slice x2 ∷ []) Post)
     walk p room0 room1 room2 =
-        qed W ((‵ (flft κ0 q0) ⊛ ‵ (flft κ1 q1) ⊛ ‵ (flft κ2 q2) ⊛ ‵ (flft κ3 q3) ⊛ ‵ ftrue) ∷ ‵ (owns (R ∷ ShrSlice (named 0) κ0 u8 ∷ MutSlice (named 1) κ1 u8 ∷ MutSlice (named 2) κ2 u8 ∷ MutSlice (named 3) κ3 u8 ∷ []) a vals) ∷ []) ∵ enter ! C Λ code.function (mach h ∷ cv ∷ s0 ∷ s1 ∷ s2 ∷ []) _ $
+        qed W ((‵ (flft κ0 q0) ⊛ ‵ (flft κ1 q1) ⊛ ‵ (flft κ2 q2) ⊛ ‵ (flft κ3 q3) ⊛ ‵ ftrue) ∷ ‵ (owns (R ∷ ShrSlice (named 0) κ0 u8 ∷ MutSlice (named 1) κ1 u8 ∷ MutSlice (named 2) κ2 u8 ∷ MutSlice (named 3) κ3 u8 ∷ []) a vals) ∷ []) ∵ enter ! C Λ code.function (mach h ∷ slice c ∷ slice x0 ∷ slice x1 ∷ slice x2 ∷ []) _ $
         alloc1 ! (λ m0. alloc1 ! (λ m1. alloc1 ! (λ m2. alloc1 ! (λ m3. alloc1 ! (λ m4. alloc1 ! (λ m5. alloc1 ! (λ m6. alloc1 ! (λ m7. alloc1 ! (λ m8. alloc1 ! (λ m9. alloc1 ! (λ m10. alloc1 ! (λ m11. alloc1 ! (λ m12. alloc1 ! (λ m13. alloc1 ! (λ m14. alloc1 ! (λ m15. alloc0 ! $ params1 ! $
-        pass1 ! (init ! 28 refl (LL.lawful T.the-type T′.the-laws 𝓤 H A W .typed h _ g .0)) $ pass1 ! (init ! 26 refl (shr-slice-lawful 𝓤 H A W (named 0) κ0 u8 .typed c (cv ∷ []) p .0)) $ pass1 ! (init ! 24 refl (tt, (tt, (record { fits = room0 .0 }, tt)))) $ pass1 ! (init ! 22 refl (tt, (tt, (record { fits = room1 .0 }, tt)))) $ pass1 ! (init ! 20 refl (tt, (tt, (record { fits = room2 .0 }, tt)))) $ pass0 ! $
+        pass1 ! (init ! 28 refl (LL.lawful T.the-type T′.the-laws 𝓤 H A W .typed h _ g .0)) $ pass1 ! (init ! 26 refl (shr-slice-lawful 𝓤 H A W (named 0) κ0 u8 .typed c (slice c ∷ []) p .0)) $ pass1 ! (init ! 24 refl (tt, (tt, (record { fits = room0 .0 }, tt)))) $ pass1 ! (init ! 22 refl (tt, (tt, (record { fits = room1 .0 }, tt)))) $ pass1 ! (init ! 20 refl (tt, (tt, (record { fits = room2 .0 }, tt)))) $ pass0 ! $
         assigns ! (of-opd ! (load ! (from ! (stop !)) (look ! 28 refl))) (from ! (stop !)) (init ! 18 refl (LL.lawful T.the-type T′.the-laws 𝓤 H A W .typed h _ g .0)) $
         assigns ! (addr ! (from ! (stop !))) (from ! (stop !)) (init ! 14 refl (tt, tt)) $
         assigns ! (addr ! (from ! (fld ! refl (hop ! (look-in ! 24 (sub ! 0 refl (whole !))) (stop !))))) (from ! (stop !)) (init ! 12 refl (tt, tt)) $
@@ -166,13 +142,13 @@ module _ {M : Type 1} (𝓤 : URA M) (H : Heap 𝓤) (A : Atoms 𝓤) (W : Given
         move ! (18 ∷ []) $ use1 W (‵ (partAt R fullShare h m6 0)) (lies-in 𝓤 H A W h m6 g) $ lft-new ! tt (λ ν. move ! (1 ∷ []) $
         use1 W (later (some (λ (δ : GName). ‵ (MutRef (named 0) (ν ∷ []) R .own (x m6 δ) (vptr m6 0 ∷ [])) ⊛ ‵ (flent (ν ∷ []) (Body (mem R) m6 0 δ))))) (lends-ref 𝓤 H A W R (named 0) (ν ∷ []) h m6 0) $ await ! tt $ pick ! (λ δ. split ! $
         -- what the callee asks is put together; one copy of what chain owns is kept
-        move ! (35 ∷ []) $ fsplit ! $ drop ! $ fsplit ! $ use1 W (‵ Own ⊛ ‵ Own) (shr-slice-copy 𝓤 H A W (named 0) κ0 u8 .twice c (cv ∷ [])) $ split ! $
+        move ! (35 ∷ []) $ fsplit ! $ drop ! $ fsplit ! $ use1 W (‵ Own ⊛ ‵ Own) (shr-slice-copy 𝓤 H A W (named 0) κ0 u8 .twice c (slice c ∷ [])) $ split ! $
         move ! (1 ∷ 2 ∷ []) $ fjoin ! $ move ! (2 ∷ 0 ∷ []) $ fjoin ! $ move ! (3 ∷ 35 ∷ []) $ join ! $ use2 W (raw (Core 𝓤 H A at-mem run .pre (to m6 ν δ))) (goes m6 ν δ) $
         -- [the callee's pre; what chain owns; the lender's part; the locals, without the cell of t]
         calls-at ! fm (Core 𝓤 H A at-mem run) known (to m6 ν δ) (and-then ! (load ! (from ! (stop !)) (look ! 17 refl)) (and-then ! (load ! (from ! (stop !)) (look ! 28 refl)) (and-then ! (load ! (from ! (stop !)) (look ! 13 refl)) (and-then ! (load ! (from ! (stop !)) (look ! 9 refl)) (and-then ! (load ! (from ! (stop !)) (look ! 5 refl)) (no-more !)))))) (λ w.
         use1 W (later (some (λ (r : ℕ). ((‵ (flft (ν ∷ []) fullShare) ⊛ ‵ (flft κ0 q0) ⊛ ‵ (flft κ1 q1) ⊛ ‵ (flft κ2 q2) ⊛ ‵ (flft κ3 q3) ⊛ ‵ ftrue) ⊛ ‵ (u32 .own r (w ∷ []))) ⊛ raw (ensured 𝓤 H A core.ended (core.clauses 𝓤 H A at-mem run) (ν ∷ [], (κ0, (κ1, (κ2, (κ3, tt))))) (x m6 δ, (c, (x0, (x1, (x2, tt))))) tt r)))) (id⊢ 𝓤 _) $ await ! tt $ pick ! (λ r.
-        split ! $ move ! (1 ∷ []) $ use1 W (some (λ (zs : Record × (Unit {0} × (List ℕ × (List ℕ × (List ℕ × Unit {0}))))). ‵ (lasts core.ended (ν ∷ [], (κ0, (κ1, (κ2, (κ3, tt))))) (x m6 δ, (c, (x0, (x1, (x2, tt))))) zs) ⊛ raw (fact 𝓤 (Made h (c .now) ys0 ys1 ys2 r (zs .0) (zs .1 .1 .0) (zs .1 .1 .1 .0) (zs .1 .1 .1 .1 .0))))) (id⊢ 𝓤 _) $ pick ! (λ zs.
-        split ! $ move ! (1 ∷ []) $ heard ! (Made h (c .now) ys0 ys1 ys2 r (zs .0) (zs .1 .1 .0) (zs .1 .1 .1 .0) (zs .1 .1 .1 .1 .0)) (λ e. fsplit ! $ move ! (1 ∷ []) $ fsplit ! $ move ! (1 ∷ []) $ fsplit ! $ fsplit ! $ move ! (1 ∷ []) $ feqL ! (λ l0. move ! (1 ∷ []) $ fsplit ! $ fsplit ! $ move ! (1 ∷ []) $ feqL ! (λ l1. move ! (1 ∷ []) $ fsplit ! $ fsplit ! $ move ! (1 ∷ []) $ feqL ! (λ l2.
+        split ! $ move ! (1 ∷ []) $ use1 W (some (λ (zs : Record × (Unit {0} × (List ℕ × (List ℕ × (List ℕ × Unit {0}))))). ‵ (lasts core.ended (ν ∷ [], (κ0, (κ1, (κ2, (κ3, tt))))) (x m6 δ, (c, (x0, (x1, (x2, tt))))) zs) ⊛ raw (fact 𝓤 (Made h (c .now) (x0 .now) (x1 .now) (x2 .now) r (zs .0) (zs .1 .1 .0) (zs .1 .1 .1 .0) (zs .1 .1 .1 .1 .0))))) (id⊢ 𝓤 _) $ pick ! (λ zs.
+        split ! $ move ! (1 ∷ []) $ heard ! (Made h (c .now) (x0 .now) (x1 .now) (x2 .now) r (zs .0) (zs .1 .1 .0) (zs .1 .1 .1 .0) (zs .1 .1 .1 .1 .0)) (λ e. fsplit ! $ move ! (1 ∷ []) $ fsplit ! $ move ! (1 ∷ []) $ fsplit ! $ fsplit ! $ move ! (1 ∷ []) $ feqL ! (λ l0. move ! (1 ∷ []) $ fsplit ! $ fsplit ! $ move ! (1 ∷ []) $ feqL ! (λ l1. move ! (1 ∷ []) $ fsplit ! $ fsplit ! $ move ! (1 ∷ []) $ feqL ! (λ l2.
         move ! (6 ∷ []) $ split ! $ move ! (1 ∷ []) $ peeks ! u32 (Is u32) (shows 𝓤 H A u32) r (w ∷ []) (λ is.
         land ! (from ! (stop !)) (init ! 26 refl (uint-lawful 𝓤 H A W w32 .typed r _ is .0)) $ rewrite ! 26 (λ (u : Val). ‵ (fat fullShare (tyInt w32) m7 0 u)) (ap only (is .0)) refl $
         -- the lifetime is ended, and the local is back
@@ -188,7 +164,7 @@ module _ {M : Type 1} (𝓤 : URA M) (H : Heap 𝓤) (A : Atoms 𝓤) (W : Given
 module _ {M : Type 1} (𝓤 : URA M) (H : Heap 𝓤) (A : Atoms 𝓤) (W : Given 𝓤 H A) (at-mem : Memory → SProp 𝓤) (run : Routine → Fun 𝓤) where
   walks : (C : Calls 𝓤 H) (Λ : Loops 𝓤 H) → FmC 𝓤 H (W .laws) C → Triple 𝓤 (C #core) (Core 𝓤 H A at-mem run) → Walks 𝓤 H A fn.ended stayed (WpFn 𝓤 H C Λ code.function) (fn.clauses 𝓤 H A at-mem run)
   walks C Λ fm known = walked 𝓤 H A fn.ended stayed (fn.clauses 𝓤 H A at-mem run) (WpFn 𝓤 H C Λ code.function) (λ κs. (LL.vals T.the-type T′.the-laws, (slice-vals, (slice-vals, (slice-vals, (slice-vals, tt)))))) (λ κs. (LL.tells T.the-type T′.the-laws, (shr-slice-tells (named 0) (κs .0) u8, (mut-slice-tells (named 1) (κs .1 .0) u8, (mut-slice-tells (named 2) (κs .1 .1 .0) u8, (mut-slice-tells (named 3) (κs .1 .1 .1 .0) u8, tt))))))
-      (λ κs qs bounds a _ are. via 𝓤 _ (fst∗ 𝓤 _ (emp 𝓤)) (walk 𝓤 H A W at-mem run (κs .0) (κs .1 .0) (κs .1 .1 .0) (κs .1 .1 .1 .0) (qs .0) (qs .1 .0) (qs .1 .1 .0) (qs .1 .1 .1 .0) (a .0) (are .0) (a .1 .0) (a .1 .1 .0 .ptr .0) (a .1 .1 .0 .ptr .1) (a .1 .1 .0 .name) (a .1 .1 .0 .now) (a .1 .1 .1 .0 .ptr .0) (a .1 .1 .1 .0 .ptr .1) (a .1 .1 .1 .0 .name) (a .1 .1 .1 .0 .now) (a .1 .1 .1 .1 .0 .ptr .0) (a .1 .1 .1 .1 .0 .ptr .1) (a .1 .1 .1 .1 .0 .name) (a .1 .1 .1 .1 .0 .now) C Λ fm known (are .1 .0) (are .1 .1 .0 .0 .1) (are .1 .1 .1 .0 .0 .1) (are .1 .1 .1 .1 .0 .0 .1)))
+      (λ κs qs bounds a _ are. via 𝓤 _ (fst∗ 𝓤 _ (emp 𝓤)) (walk 𝓤 H A W at-mem run (κs .0) (κs .1 .0) (κs .1 .1 .0) (κs .1 .1 .1 .0) (qs .0) (qs .1 .0) (qs .1 .1 .0) (qs .1 .1 .1 .0) (a .0) (are .0) (a .1 .0) (a .1 .1 .0) (a .1 .1 .1 .0) (a .1 .1 .1 .1 .0) C Λ fm known (are .1 .0) (are .1 .1 .0 .0 .1) (are .1 .1 .1 .0 .0 .1) (are .1 .1 .1 .1 .0 .0 .1)))
 
   all-go : AllGo 𝓤 H A W 4 (fn.signature .params) (fn.ended .kept) stayed
   all-go = (goes-none 𝓤 H A W 4 (λ _. R) yes (λ κs x f. refl), (goes-none-slice 𝓤 H A W 4 (0 ∷ []) tt (plain (λ _. u8)) yes, (goes-gave-slice 𝓤 H A W 4 1 tt (plain (λ _. u8)), (goes-gave-slice 𝓤 H A W 4 2 tt (plain (λ _. u8)), (goes-gave-slice 𝓤 H A W 4 3 tt (plain (λ _. u8)), tt)))))

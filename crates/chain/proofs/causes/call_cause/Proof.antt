@@ -1,7 +1,11 @@
 -- `causes::call_cause` meets its contract. The table is read line by line: the lines tested before do not hold, and this one does.
 -- Assumes nothing.
-use mathlib.Core.Path.{sym, _∙_}
+use Prim.Native.Nat.{ℕ}
+use mathlib.Core.Path.{_≡_, sym, _∙_}
+use mathlib.Core.List.{List}
+use lib.ListN.{drop}
 use borrow.Author.Tests.{lt-ltb, le-ltb}
+use Rattle.model.specs.Rules.{Rule, firstOf}
 use Rattle.model.specs.Lent.{blockCount}
 use Rattle.model.specs.Causes.{callCauses}
 use Rattle.model.proofs.Verdicts.{first-here, first-later, first-none}
@@ -9,70 +13,36 @@ use borrow.Author.Needs.{needs}
 use Rattle.chain.proofs.causes.call_cause.Statement.{statement}
 use Rattle.chain.proofs.causes.call_cause.Tie as tie
 
-returns : tie.Need-returns
-unfolding callCauses blockCount
-returns c = sym (first-here _ _ (sym (c .before .chain-wrong .ensures) ∙ c .if1 .taken))
+abbrev table : tie.Start → List Rule
+table s = let a = s .args in callCauses (a .d) (a .chain .now) (a .main .now) (a .store .now) (a .answers .now)
 
-returns-2 : tie.Need-returns-2
-unfolding callCauses blockCount
-returns-2 c =
-    let store = c .before in
-    sym
-    (first-later _ _ (sym (store .before .before .chain-wrong .ensures) ∙ store .before .if1 .left)
-    ∙ first-here _ _ (sym (store .store-wrong .ensures) ∙ c .if2 .taken))
+-- the first n lines do not hold
+abbrev Past : tie.Start → ℕ → Type 0
+Past s n = firstOf (table s) ≡ firstOf (drop n (table s))
 
-returns-3 : tie.Need-returns-3
+past-1 : (c : tie.Else1) → Past (c .before .before .before .before .before .before) 1
 unfolding callCauses blockCount
-returns-3 c =
-    let store = c .before .before in
-    sym
-    (first-later _ _ (sym (store .before .before .chain-wrong .ensures) ∙ store .before .if1 .left)
-    ∙ first-later _ _ (sym (store .store-wrong .ensures) ∙ c .before .if2 .left)
-    ∙ first-here _ _ (lt-ltb _ _ (c .if3 .taken)))
+past-1 c = first-later _ _ (sym (c .before .chain-wrong .ensures) ∙ c .if1 .left)
 
-returns-4 : tie.Need-returns-4
+past-2 : (c : tie.Else2) → Past (c .before .before .before .before .before .before .before .before) 2
 unfolding callCauses blockCount
-returns-4 c =
-    let store = c .before .before .before in
-    sym
-    (first-later _ _ (sym (store .before .before .chain-wrong .ensures) ∙ store .before .if1 .left)
-    ∙ first-later _ _ (sym (store .store-wrong .ensures) ∙ c .before .before .if2 .left)
-    ∙ first-later _ _ (le-ltb _ _ (c .before .if3 .left))
-    ∙ first-here _ _ (lt-ltb _ _ (c .if4 .taken)))
+past-2 c = past-1 (c .before .before) ∙ first-later _ _ (sym (c .before .store-wrong .ensures) ∙ c .if2 .left)
 
-returns-5 : tie.Need-returns-5
+past-4 : (c : tie.Else4) → Past (c .before .before .before .before .before .before .before .before .before .before) 4
 unfolding callCauses blockCount
-returns-5 c =
-    let store = c .before .before .before .before .before in
-    sym
-    (first-later _ _ (sym (store .before .before .chain-wrong .ensures) ∙ store .before .if1 .left)
-    ∙ first-later _ _ (sym (store .store-wrong .ensures) ∙ c .before .before .before .before .if2 .left)
-    ∙ first-later _ _ (le-ltb _ _ (c .before .before .before .if3 .left))
-    ∙ first-later _ _ (le-ltb _ _ (c .before .before .if4 .left))
-    ∙ first-here _ _ (sym (c .before .all-chained .ensures) ∙ c .if5 .taken))
-
-returns-6 : tie.Need-returns-6
-unfolding callCauses blockCount
-returns-6 c =
-    let store = c .before .before .before .before .before in
-    sym
-    (first-later _ _ (sym (store .before .before .chain-wrong .ensures) ∙ store .before .if1 .left)
-    ∙ first-later _ _ (sym (store .store-wrong .ensures) ∙ c .before .before .before .before .if2 .left)
-    ∙ first-later _ _ (le-ltb _ _ (c .before .before .before .if3 .left))
-    ∙ first-later _ _ (le-ltb _ _ (c .before .before .if4 .left))
-    ∙ first-later _ _ (sym (c .before .all-chained .ensures) ∙ c .if5 .left)
-    ∙ first-none)
+past-4 c = past-2 (c .before .before) ∙ first-later _ _ (le-ltb _ _ (c .before .if3 .left)) ∙ first-later _ _ (le-ltb _ _ (c .if4 .left))
 
 pub call-cause-spec : {M : Type 1} → statement M
+unfolding callCauses blockCount
 call-cause-spec =
     tie.close
     (tie.spec
     (search needs)  -- chain-wrong-requires
-    returns
+    (λ c. sym (first-here _ _ (sym (c .before .chain-wrong .ensures) ∙ c .if1 .taken)))
     (search needs)  -- store-wrong-requires
-    returns-2
-    returns-3
-    returns-4
+    (λ c. sym (past-1 (c .before .before) ∙ first-here _ _ (sym (c .before .store-wrong .ensures) ∙ c .if2 .taken)))
+    (λ c. sym (past-2 (c .before) ∙ first-here _ _ (lt-ltb _ _ (c .if3 .taken))))
+    (λ c. sym (past-2 (c .before .before) ∙ first-later _ _ (le-ltb _ _ (c .before .if3 .left)) ∙ first-here _ _ (lt-ltb _ _ (c .if4 .taken))))
     (search needs)  -- all-chained-requires
-    returns-5
-    returns-6)
+    (λ c. sym (past-4 (c .before .before) ∙ first-here _ _ (sym (c .before .all-chained .ensures) ∙ c .if5 .taken)))
+    (λ c. sym (past-4 (c .before .before) ∙ first-later _ _ (sym (c .before .all-chained .ensures) ∙ c .if5 .left) ∙ first-none)))

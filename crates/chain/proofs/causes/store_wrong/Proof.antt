@@ -4,20 +4,11 @@ use borrow.Author.Needs.{needs}
 use Rattle.chain.proofs.causes.store_wrong.Statement.{statement}
 use Rattle.chain.proofs.causes.store_wrong.Tie as tie
 
-returns : tie.Need-returns
-returns c = simp (eq-eqb _ _ (c .if1 .taken))
-
-returns-2 : tie.Need-returns-2
-returns-2 c = simp (ne-eqb _ _ (c .before .if1 .left), ne-eqb _ _ (c .if2 .taken))
-
-returns-3 : tie.Need-returns-3
-returns-3 c = simp (ne-eqb _ _ (c .before .if1 .left), eq-eqb _ _ (c .if2 .left))
-
 pub store-wrong-spec : {M : Type 1} → statement M
 store-wrong-spec = tie.close
     (tie.spec
-    returns
+    (λ c. simp (eq-eqb _ _ (c .if1 .taken)))
     (search needs)  -- rem-if2
-    returns-2
+    (λ c. simp (ne-eqb _ _ (c .before .if1 .left), ne-eqb _ _ (c .if2 .taken)))
     (search needs)  -- div-result
-    returns-3)
+    (λ c. simp (ne-eqb _ _ (c .before .if1 .left), eq-eqb _ _ (c .if2 .left))))

@@ -1,9 +1,5 @@
 -- `run::one_turn` meets its contract: the CCW, the step and the answer are those of `next`, and "go on" is `more`. Assumes nothing.
-use mathlib.Core.Path.{sym, _∙_}
-use borrow.Author.Tests.{eqb-true}
-use Rattle.numbers.proofs.Joined.{both-true}
-use Rattle.unit_state.specs.Standing.{stateOf}
-use Rattle.chain.proofs.Runs.{turned, turned-go, on-left}
+use Rattle.chain.proofs.Runs.{turned}
 use borrow.Author.Needs.{needs}
 use Rattle.chain.proofs.run.one_turn.Statement.{statement}
 use Rattle.chain.proofs.run.one_turn.Tie as tie
@@ -21,15 +17,9 @@ returns c =
     let ccw = step .before .before .before in
     let first = ccw .before .before .before .before .before in
     let a = first .args in
-    let s = stateOf (a .u) (a .s) in
     let e = ccw .ccw-at .ensures in
-    let d = step .step .result in (
-      λ k. turned (a .d) (a .chain .now) (a .i) _ s (a .main .now) (a .store .now) (a .answers .now) _ _ (a .u) (a .s) d k (e .0) (step .step .ensures) _ (put .put-answer .ensures) (e .1) (first .pre .3 .some-size),
-      (
-        λ k. turned-go (a .d) (a .chain .now) (a .i) _ s (a .main .now) (a .store .now) (a .answers .now) _ _ (a .u) (a .s) d k (e .0) (step .step .ensures) _ (c .goes-on .ensures),
-        λ g. on-left (a .u) (d .left) (eqb-true _ _ (both-true _ _ (both-true _ _ (sym (c .goes-on .ensures) ∙ g) .0) .0)),
-      ),
-    )
+    turned (a .d) (a .chain .now) (a .i) _ (a .u) (a .s) (a .main .now) (a .store .now) (a .answers .now) _ _ (step .step .result)
+    (e .0) (step .step .ensures) _ _ (put .put-answer .ensures) (e .1) (first .pre .3 .some-size) (c .goes-on .ensures)
 
 pub one-turn-spec : {M : Type 1} → statement M
 one-turn-spec =

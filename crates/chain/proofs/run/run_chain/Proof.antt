@@ -1,17 +1,17 @@
 -- `run::run_chain` meets its contract. Invariant `Underway`: lengths kept, the state safe, and what is still to run from here gives the whole run; the commands left fall. Assumes nothing.
 use Prim.Native.Nat.{_-_}
-use mathlib.Core.Path.{_≡_, refl, sym, _∙_}
-use mathlib.Core.Bool.{true}
+use mathlib.Core.Path.{refl, sym, _∙_}
 use native.Mathlib.Omega.{arith}
 use borrow.Author.Tests.{not-true, not-false}
-use Rattle.unit_state.specs.Standing.{stateOf, Sound}
+use Rattle.slices.specs.Parts.{zeros}
+use Rattle.unit_state.specs.Standing.{Sound}
 use Rattle.chain.proofs.Runs.{Underway, underway-start, underway-next, underway-stop, underway-done, sound-same}
 use borrow.Author.Needs.{needs}
 use Rattle.chain.proofs.run.run_chain.Statement.{statement}
 use Rattle.chain.proofs.run.run_chain.Tie as tie
 
 abbrev Inv-loop : tie.InvT-loop
-Inv-loop d chain u main₀ store₀ answers₀ n state₀ i₀ main store answers state i = Underway d chain main₀ store₀ answers₀ n (stateOf u state₀) main store answers (stateOf u state) i
+Inv-loop d chain u main₀ store₀ answers₀ n state₀ i₀ main store answers state i = Underway d chain u main₀ store₀ answers₀ n state₀ main store answers state i
 
 abbrev μ-loop : tie.MeasureT-loop
 μ-loop d chain u main₀ store₀ answers₀ n state₀ i₀ main store answers state i = n - i
@@ -19,7 +19,7 @@ abbrev μ-loop : tie.MeasureT-loop
 loop-holds : tie.Need-loop-holds Inv-loop μ-loop
 loop-holds c =
     let first = c .before .before .before .before in
-    underway-start (first .args .d) _ _ _ _ _ _ refl (first .pre .2 .safe (first .args .u))
+    underway-start (first .args .d) _ (first .args .u) _ _ _ _ _ refl (first .pre .2 .safe (first .args .u))
 
 -- the state of a turn is sound
 sound : (c : tie.In-loop Inv-loop μ-loop) → let a = c .before .before .before .before .before .before .args in Sound (a .d) (c .before .loop .state) (c .before .loop .store)
@@ -56,8 +56,9 @@ returns c =
     let turn = done .before .before .before .before in
     let a = turn .before .before .before .before .before .before .args in
     let l = turn .before .loop in
-    underway-stop (a .d) (a .chain .now) (a .main .now) (a .store .now) (a .answers .now) _ (stateOf (a .u) (a .s)) (l .main) (l .store) (l .answers) (stateOf (a .u) (l .state)) (l .i) (l .inv) (turn .loop-test .taken) _
-    (done .one-turn .ensures .0 (l .i)) (sym (done .one-turn .ensures .1 .0 (l .i)) ∙ not-true _ (c .if1 .taken))
+    let p = done .one-turn .ensures in
+    underway-stop (a .d) (a .chain .now) (a .u) (a .main .now) (a .store .now) (a .answers .now) _ (a .s) (l .main) (l .store) (l .answers) (l .state) (l .i) (l .inv) _ _ (turn .loop-test .taken)
+    (p .0) (sym (p .1 .0) ∙ not-true _ (c .if1 .taken)) (p .1 .1)
 
 loop-less : tie.Need-loop-less Inv-loop μ-loop
 loop-less c = omega arith
@@ -69,10 +70,9 @@ loop-again c =
     let first = turn .before .before .before .before .before .before in
     let a = first .args in
     let l = turn .before .loop in
-    let go : done .one-turn .result .go ≡ true = not-false _ (c .if1 .left) in
-    underway-next (a .d) (a .chain .now) (a .main .now) (a .store .now) (a .answers .now) _ (stateOf (a .u) (a .s)) (l .main) (l .store) (l .answers) (stateOf (a .u) (l .state)) (l .i) (l .inv) (turn .loop-test .taken) _ _ _ _
-    (sound turn .some-block) (omega (arith, l .inv .count, first .pre .0))
-    (rw (done .one-turn .ensures .1 .1 go) at (done .one-turn .ensures .0 (l .i))) (sym (done .one-turn .ensures .1 .0 (l .i)) ∙ go)
+    let p = done .one-turn .ensures in
+    underway-next (a .d) (a .chain .now) (a .u) (a .main .now) (a .store .now) (a .answers .now) _ (a .s) (l .main) (l .store) (l .answers) (l .state) (l .i) (l .inv) _ _ _ _ (turn .loop-test .taken)
+    (sound turn .some-block) (omega (arith, l .inv .count, first .pre .0)) (p .0) (sym (p .1 .0) ∙ not-false _ (c .if1 .left)) (p .1 .1)
 
 same-length-4 : tie.Need-same-length-4 Inv-loop μ-loop
 same-length-4 c = omega arith
@@ -84,10 +84,11 @@ same-length-6 : tie.Need-same-length-6 Inv-loop μ-loop
 same-length-6 c = omega arith
 
 returns-2 : tie.Need-returns-2 Inv-loop μ-loop
+unfolding zeros
 returns-2 c =
     let a = c .before .before .before .before .before .before .args in
     let l = c .before .loop in
-    underway-done (a .d) (a .chain .now) (a .main .now) (a .store .now) (a .answers .now) _ (stateOf (a .u) (a .s)) (l .main) (l .store) (l .answers) (stateOf (a .u) (l .state)) (l .i) (l .inv) (c .loop-test .left)
+    underway-done (a .d) (a .chain .now) (a .u) (a .main .now) (a .store .now) (a .answers .now) _ (a .s) (l .main) (l .store) (l .answers) (l .state) (l .i) (l .inv) (c .loop-test .left)
 
 pub run-chain-spec : {M : Type 1} → statement M
 run-chain-spec =

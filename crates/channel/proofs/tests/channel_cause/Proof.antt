@@ -1,64 +1,45 @@
 -- `channel_cause` meets its contract. Each test is one line of `channelCauses`, in its order. Assumes nothing.
-use mathlib.Core.Path.{sym, _∙_}
+use Prim.Native.Nat.{ℕ}
+use mathlib.Core.Path.{_≡_, sym, _∙_}
+use mathlib.Core.List.{List}
+use lib.ListN.{drop}
 use borrow.Author.Tests.{eq-eqb, ne-eqb}
+use Rattle.model.specs.Rules.{Rule, firstOf}
 use Rattle.model.specs.Causes.{channelCauses}
 use Rattle.model.proofs.Verdicts.{first-here, first-later, first-none}
 use borrow.Author.Needs.{needs}
 use Rattle.channel.proofs.tests.channel_cause.Statement.{statement}
 use Rattle.channel.proofs.tests.channel_cause.Tie as tie
 
-returns : tie.Need-returns
-unfolding channelCauses
-returns c = sym (first-here _ _ (sym (c .before .no-command .ensures) ∙ c .if1 .taken))
+abbrev table : tie.Start → List Rule
+table s = channelCauses (s .args .c) (s .args .main .now)
 
-returns-2 : tie.Need-returns-2
-unfolding channelCauses
-returns-2 c =
-    let no-command = c .before .before .before .no-command in
-    let if1 = c .before .before .if1 in
-    let others = c .before .others in
-    sym (first-later _ _ (sym (no-command .ensures) ∙ if1 .left) ∙ first-here _ _ (sym (others .ensures) ∙ c .if2 .taken))
+-- the first n lines do not hold
+abbrev Past : tie.Start → ℕ → Type 0
+Past s n = firstOf (table s) ≡ firstOf (drop n (table s))
 
-returns-3 : tie.Need-returns-3
+past-1 : (c : tie.Else1) → Past (c .before .before .before .before) 1
 unfolding channelCauses
-returns-3 c =
-    let no-command = c .before .before .before .before .before .no-command in
-    let if1 = c .before .before .before .before .if1 in
-    let others = c .before .before .before .others in
-    let if2 = c .before .before .if2 in
-    sym (first-later _ _ (sym (no-command .ensures) ∙ if1 .left) ∙ first-later _ _ (sym (others .ensures) ∙ if2 .left) ∙ first-here _ _ (eq-eqb _ _ (c .if3 .taken)))
+past-1 c = first-later _ _ (sym (c .before .no-command .ensures) ∙ c .if1 .left)
 
-returns-4 : tie.Need-returns-4
+past-2 : (c : tie.Else2) → Past (c .before .before .before .before .before .before) 2
 unfolding channelCauses
-returns-4 c =
-    let no-command = c .before .before .before .before .before .before .before .no-command in
-    let if1 = c .before .before .before .before .before .before .if1 in
-    let others = c .before .before .before .before .before .others in
-    let if2 = c .before .before .before .before .if2 in
-    let if3 = c .before .before .if3 in
-    let leaves-storage = c .before .leaves-storage in
-    sym (first-later _ _ (sym (no-command .ensures) ∙ if1 .left) ∙ first-later _ _ (sym (others .ensures) ∙ if2 .left) ∙ first-later _ _ (ne-eqb _ _ (if3 .left)) ∙ first-here _ _ (sym (leaves-storage .ensures) ∙ c .if4 .taken))
+past-2 c = past-1 (c .before .before) ∙ first-later _ _ (sym (c .before .others .ensures) ∙ c .if2 .left)
 
-returns-5 : tie.Need-returns-5
+past-3 : (c : tie.Else3) → Past (c .before .before .before .before .before .before .before .before) 3
 unfolding channelCauses
-returns-5 c =
-    let no-command = c .before .before .before .before .before .before .before .no-command in
-    let if1 = c .before .before .before .before .before .before .if1 in
-    let others = c .before .before .before .before .before .others in
-    let if2 = c .before .before .before .before .if2 in
-    let if3 = c .before .before .if3 in
-    let leaves-storage = c .before .leaves-storage in
-    sym (first-later _ _ (sym (no-command .ensures) ∙ if1 .left) ∙ first-later _ _ (sym (others .ensures) ∙ if2 .left) ∙ first-later _ _ (ne-eqb _ _ (if3 .left)) ∙ first-later _ _ (sym (leaves-storage .ensures) ∙ c .if4 .left) ∙ first-none)
+past-3 c = past-2 (c .before .before) ∙ first-later _ _ (ne-eqb _ _ (c .if3 .left))
 
 pub channel-cause-spec : {M : Type 1} → statement M
+unfolding channelCauses
 channel-cause-spec =
     tie.close
     (tie.spec
     (search needs)  -- no-command-requires
-    returns
+    (λ c. sym (first-here _ _ (sym (c .before .no-command .ensures) ∙ c .if1 .taken)))
     (search needs)  -- others-requires
-    returns-2
-    returns-3
+    (λ c. sym (past-1 (c .before .before) ∙ first-here _ _ (sym (c .before .others .ensures) ∙ c .if2 .taken)))
+    (λ c. sym (past-2 (c .before .before) ∙ first-here _ _ (eq-eqb _ _ (c .if3 .taken))))
     (search needs)  -- leaves-storage-requires
-    returns-4
-    returns-5)
+    (λ c. sym (past-3 (c .before .before) ∙ first-here _ _ (sym (c .before .leaves-storage .ensures) ∙ c .if4 .taken)))
+    (λ c. sym (past-3 (c .before .before) ∙ first-later _ _ (sym (c .before .leaves-storage .ensures) ∙ c .if4 .left) ∙ first-none)))

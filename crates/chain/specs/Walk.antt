@@ -1,0 +1,74 @@
+-- What the code carries from command to command, and what a run and a call leave, beside the definition's words for it.
+--     carriedOf             what is carried of a state: all but the sense, which stands as the chain found it or is zeros
+--     leftOf, leftAt        what a command leaves that found s carried, and what command i leaves in a system
+--     leftFrom              what the run leaves, the chain from command i on, n commands at most: it goes on where `run` does
+--     systemOf, systemLeft  the systems that a `Running` and a `Left` stand for, with what is lent
+--     runOf, leftBy         the system after the whole chain, and what it leaves; leftCall   what a call leaves
+--     calledWith            what a call gives, with what was lent
+-- Assumes nothing.
+use Prim.Native.Nat.{ℕ, zero, suc, _+_, _/_}
+use mathlib.Core.Bool.{Bool, _&&_}
+use mathlib.Core.List.{List}
+use lib.ListN.{length}
+use Rattle.numbers.specs.Choice.{_=?_, pick}
+use Rattle.slices.specs.Parts.{zeros}
+use Rattle.model.specs.declared.ccw.Ccw.{Ccw}
+use Rattle.model.specs.declared.device.Device.{Device}
+use Rattle.model.specs.declared.record.Record.{Record}
+use Rattle.model.specs.State.{State}
+use Rattle.model.specs.Names.{NO-OPERATION}
+use Rattle.model.specs.Lent.{ccwSize, ccwAt, fetched}
+use Rattle.model.specs.Parameters.{locateLength}
+use Rattle.model.specs.Commands.{Out}
+use Rattle.model.specs.Chain.{System, system, stepAt, next, more, run, start, classA}
+use Rattle.model.specs.Chain as definition
+use Rattle.unit_state.specs.declared.Running.{Running}
+use Rattle.unit_state.specs.declared.Left.{Left}
+use Rattle.unit_state.specs.Standing.{started, stateOf, stateLeft}
+use Rattle.endings.specs.Ending.{shown}
+use Rattle.chain.specs.declared.call.Called.{Called}
+
+abbrev pub carriedOf : Bool → State → Running
+carriedOf kept s = record {
+  kept = kept;
+  defined = s .defined;
+  before = s .before;
+  counts = record { «blocks_read» = s .unit .«blocks_read»; «blocks_written» = s .unit .«blocks_written»; movements = s .unit .movements };
+  extent = s .extent;
+  located = s .located;
+}
+
+-- a refused command leaves what it found
+unfoldable pub leftOf : Ccw → Running → Out → Left
+leftOf c s o = record {
+  state = pick (o .done .cause =? 0) (carriedOf (s .kept && c .command =? NO-OPERATION) (o .done .state)) s;
+  parameters = shown (o .done .cause) (fetched c (o .main) locateLength);
+  cause = o .done .cause;
+}
+
+module _ (dev : Device) (chain : List ℕ) where
+  abbrev pub leftAt : ℕ → Running → System → Left
+  leftAt i s y = leftOf (ccwAt chain i) s (stepAt dev chain i y)
+
+  unfoldable pub leftFrom : ℕ → ℕ → Running → System → Left
+  leftFrom zero i s y = record { state = s; parameters = zeros 8; cause = 0 }
+  leftFrom (suc n) i s y = pick (more dev chain i y) (leftFrom n (i + 1) (leftAt i s y .state) (next dev chain i y)) (leftAt i s y)
+
+  abbrev pub runOf : System → System
+  runOf y = run dev chain (length chain / ccwSize) 0 y
+
+  abbrev pub leftBy : Running → System → Left
+  leftBy s y = leftFrom (length chain / ccwSize) 0 s y
+
+module _ (u : Record) where
+  abbrev pub systemOf : Running → List ℕ → List ℕ → List ℕ → ℕ → System
+  systemOf s = system (stateOf u s)
+
+  abbrev pub systemLeft : Left → List ℕ → List ℕ → List ℕ → ℕ → System
+  systemLeft l = system (stateLeft u l)
+
+abbrev pub leftCall : List ℕ → List ℕ → List ℕ → Record → List ℕ → Left
+leftCall chain main store u answers = leftBy classA chain (started u) (system (start u) main store answers 0)
+
+abbrev pub calledWith : Called → List ℕ → List ℕ → List ℕ → definition.Called
+calledWith r main store answers = record { cause = r .cause; reached = r .reached; unit = r .unit; main = main; store = store; answers = answers }
