@@ -28,13 +28,13 @@ use Rattle.model.specs.Names.{write-check, READ, WRITE, READ-IPL}
 use Rattle.model.specs.Rules.{firstOf}
 use Rattle.model.specs.Lent.{fetched, delivered, blockCount, blocksFrom, blocksInto}
 use Rattle.model.specs.Parameters.{address, reads, writes}
-use Rattle.model.specs.Causes.{a-locate, none-or-ipl, transferCauses, readIplCauses}
-use Rattle.model.specs.Log.{readCounted, writtenCounted, movementCounted}
-use Rattle.model.specs.Commands.{Out, out, ended, decided, after, extentSet, cleared, begun, readDone, read, writeDone, write, wholeDevice, iplDone, readIpl, performed}
+use Rattle.model.specs.Causes.{a-locate, transferCauses, readIplCauses}
+use Rattle.model.specs.Log.{writtenCounted}
+use Rattle.model.specs.Commands.{Out, ended, decided, after, cleared, begun, readDone, read, writeDone, write, wholeDevice, iplDone, readIpl, performed}
 use Rattle.model.proofs.Verdicts.{first-here, first-later, first-none}
 use Rattle.model.proofs.Safety.{on-device}
 use Rattle.model.proofs.Lengths.{in-store}
-use Rattle.model.proofs.Steps.{performed-read, performed-write, performed-read-ipl}
+use Rattle.model.proofs.Steps.{performed-as}
 use Rattle.log.specs.Counts.{counted, withRead, withMovement}
 use Rattle.log.proofs.Counting.{read-counted, written-counted, movement-counted}
 use Rattle.unit_state.specs.declared.Running.{Running}
@@ -76,10 +76,10 @@ pub record Transfer (follows : ℕ → Bool) (dev : Device) (c : Ccw) (s : Runni
 
 module _ {dev : Device} {c : Ccw} {s : Running} {main store : List ℕ} where
   pub reading : Sound dev s store × Handed c main × (c .command ≡ READ) → Transfer reads dev c s main store
-  reading h = record { sound = h .0; handed = h .1; does = λ t. read dev c (cleared t) main store; is = λ t. performed-read dev c t main store (h .2) }
+  reading h = record { sound = h .0; handed = h .1; does = λ t. read dev c (cleared t) main store; is = λ t. performed-as dev c t main store .read (h .2) }
 
   pub writing : Sound dev s store × Handed c main × (c .command ≡ WRITE) → Transfer writes dev c s main store
-  writing h = record { sound = h .0; handed = h .1; does = λ t. write dev c (cleared t) main store; is = λ t. performed-write dev c t main store (h .2) }
+  writing h = record { sound = h .0; handed = h .1; does = λ t. write dev c (cleared t) main store; is = λ t. performed-as dev c t main store .write (h .2) }
 
 -- one that both lines of its table let through
 pub record Passed (follows : ℕ → Bool) (dev : Device) (c : Ccw) (s : Running) (main store : List ℕ) : Type 0 where
@@ -152,14 +152,14 @@ module _ {u : Record} {dev : Device} {c : Ccw} {s : Running} {main store : List 
       → main′ ≡ delivered c main (take (m .n) (blocksFrom dev store (m .block) (s .located .blocks))) → Ends u c s r main′ store (performed dev c (stateOf u s) main store)
   unfolding read cleared after stateOf
   read-ends p {main′} k e f d =
-      accepted-by u c s main store _ _ _ _ _ _ _ r main′ store (performed-read dev c (stateOf u s) main store k) (no-cause u p) (rw f at e) (rw k (sym (and-false (s .kept))))
+      accepted-by u c s main store _ _ _ _ _ _ _ r main′ store (performed-as dev c (stateOf u s) main store .read k) (no-cause u p) (rw f at e) (rw k (sym (and-false (s .kept))))
       (rw (read-state u dev s (moveOf dev c s .n) (moveOf dev c s .can), d, f) refl)
 
   pub write-ends : Passed writes dev c s main store → {store′ : List ℕ} → c .command ≡ WRITE → r ≡ writeEnd dev c s m → m ≡ moveOf dev c s
       → store′ ≡ blocksInto dev store (m .block) (s .located .blocks) (fetched c main (m .n)) → Ends u c s r main store′ (performed dev c (stateOf u s) main store)
   unfolding write cleared after stateOf
   write-ends p {store′} k e f d =
-      accepted-by u c s main store _ _ _ _ _ _ _ r main store′ (performed-write dev c (stateOf u s) main store k) (no-cause u p) (rw f at e) (rw k (sym (and-false (s .kept))))
+      accepted-by u c s main store _ _ _ _ _ _ _ r main store′ (performed-as dev c (stateOf u s) main store .write k) (no-cause u p) (rw f at e) (rw k (sym (and-false (s .kept))))
       (rw (write-state u dev s (moveOf dev c s .n) (moveOf dev c s .can), d, f) refl)
 
 module _ (u : Record) (dev : Device) (c : Ccw) (s : Running) (main store : List ℕ) (r : Ended) where
@@ -168,5 +168,5 @@ module _ (u : Record) (dev : Device) (c : Ccw) (s : Running) (main store : List 
   unfolding readIpl
   ipl-ends n blocks main′ k v e f b d =
       accepted-by u c s main store _ _ _ (withExtent s (withMovement (withRead 1 (s .counts))) (wholeDevice dev (blockCount dev store)) ReadIpl) (min (c .count) (dev .block)) (dev .block) 1 r main′ store
-      (performed-read-ipl dev c (stateOf u s) main store k) v (rw (f, b) at e) (rw k (sym (and-false (s .kept))))
+      (performed-as dev c (stateOf u s) main store .read-ipl k) v (rw (f, b) at e) (rw k (sym (and-false (s .kept))))
       (rw (ipl-state u dev s (min (c .count) (dev .block)) (blockCount dev store), d, f) refl)

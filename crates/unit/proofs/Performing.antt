@@ -20,7 +20,7 @@ use Rattle.model.specs.Causes.{commands, channelCauses, unitCauses}
 use Rattle.model.specs.Log.{withSense, withCounts}
 use Rattle.model.specs.Commands.{out, ended, noOperation, performed, step}
 use Rattle.model.proofs.Verdicts.{first-here, first-later, first-none, never-given}
-use Rattle.model.proofs.Steps.{early-channel, early-unit, step-early, step-performed, performed-no-operation}
+use Rattle.model.proofs.Steps.{early-channel, early-unit, step-early, step-performed, performed-as}
 use Rattle.log.specs.Counts.{counted}
 use Rattle.unit_state.specs.declared.Running.{Running}
 use Rattle.unit_state.specs.Standing.{passedOn, unitOf, stateOf, Sound}
@@ -67,4 +67,4 @@ module _ {dev : Device} {u : Record} {c : Ccw} {s : Running} (main : List ℕ) {
     unfolding oneOf
     no-operation-ends e f =
         by-own e refl
-        (rw (performed-no-operation dev c (stateOf u s) main store e, passed-out u s main store) (accepted-ends u c s main store (passedOn s) 0 0 0 r main store _ f (rw e (sym (and-true (s .kept)))) refl refl refl))
+        (rw (performed-as dev c (stateOf u s) main store .no-operation e, passed-out u s main store) (accepted-ends u c s main store (passedOn s) 0 0 0 r main store _ f (rw e (sym (and-true (s .kept)))) refl refl refl))
