@@ -4,10 +4,6 @@ use Rattle.command_extent.proofs.Tests.{mask-maintenance}
 use Rattle.command_extent.proofs.maintenance.Statement.{statement}
 use Rattle.command_extent.proofs.maintenance.Tie as tie
 
-returns : tie.Need-returns
-returns c = sym (mask-maintenance _ (c .fits .mask .fits))
-
 pub maintenance-spec : {M : Type 1} → statement M
-maintenance-spec = tie.close
-    (tie.spec
-    returns)
+maintenance-spec = tie.close (tie.spec
+    (λ c. sym (mask-maintenance _ (c .fits .mask .fits))))  -- returns

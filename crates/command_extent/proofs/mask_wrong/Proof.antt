@@ -4,11 +4,6 @@ use Rattle.command_extent.proofs.Tests.{mask-ten, mask-spare}
 use Rattle.command_extent.proofs.mask_wrong.Statement.{statement}
 use Rattle.command_extent.proofs.mask_wrong.Tie as tie
 
-returns : tie.Need-returns
-returns c =
-    let byte = c .before .fits .mask .fits in
-    simp (mask-ten _ byte, eq-eqb _ _ (c .if1 .taken))
-
 returns-2 : tie.Need-returns-2
 returns-2 c =
     let byte = c .before .before .fits .mask .fits in
@@ -20,8 +15,7 @@ returns-3 c =
     simp (mask-ten _ byte, mask-spare _ byte, ne-eqb _ _ (c .before .if1 .left), eq-eqb _ _ (c .if2 .left))
 
 pub mask-wrong-spec : {M : Type 1} → statement M
-mask-wrong-spec = tie.close
-    (tie.spec
-    returns
+mask-wrong-spec = tie.close (tie.spec
+    (λ c. let byte = c .before .fits .mask .fits in simp (mask-ten _ byte, eq-eqb _ _ (c .if1 .taken)))  -- returns
     returns-2
     returns-3)

@@ -6,8 +6,7 @@ use Rattle.command_locate.proofs.is_operation.Tie as tie
 
 pub is-operation-spec : {M : Type 1} → statement M
 unfolding oneOf
-is-operation-spec = tie.close
-    (tie.spec
+is-operation-spec = tie.close (tie.spec
     (λ c. rw (c .match .keys1))
     (λ c. rw (c .match .keys2))
     (λ c. rw (c .match .keys3))

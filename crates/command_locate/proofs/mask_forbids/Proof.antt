@@ -7,23 +7,12 @@ use Rattle.command_locate.proofs.Tests.{table-bytes, forbidden-past, fo
 use Rattle.command_locate.proofs.mask_forbids.Statement.{statement}
 use Rattle.command_locate.proofs.mask_forbids.Tie as tie
 
-returns : tie.Need-returns
-unfolding forbids
-returns c = sym (forbidden-past _ _ (c .if1 .taken))
-
-cast-bits : tie.Need-cast-bits
-cast-bits c = fits-under _ _ 256 (table-bytes _ (c .if1 .left)) tt
-
-returns-2 : tie.Need-returns-2
-unfolding forbids oneOf
-returns-2 c = forbidden-at _ _ (c .if1 .left) (c .before .pre)
-
 pub mask-forbids-spec : {M : Type 1} → statement M
-mask-forbids-spec = tie.close
-    (tie.spec
+unfolding forbids oneOf
+mask-forbids-spec = tie.close (tie.spec
     (λ c. search needs)  -- cast-kind
-    returns
+    (λ c. sym (forbidden-past _ _ (c .if1 .taken)))  -- returns
     (λ c. c .if1 .left)  -- array-read-bits
-    cast-bits
+    (λ c. fits-under _ _ 256 (table-bytes _ (c .if1 .left)) tt)  -- cast-bits
     (λ c. search needs)  -- shr-result
-    returns-2)
+    (λ c. forbidden-at _ _ (c .if1 .left) (c .before .pre)))  -- returns-2

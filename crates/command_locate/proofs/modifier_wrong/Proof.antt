@@ -4,10 +4,6 @@ use Rattle.command_locate.proofs.Tests.{modifier-reserved}
 use Rattle.command_locate.proofs.modifier_wrong.Statement.{statement}
 use Rattle.command_locate.proofs.modifier_wrong.Tie as tie
 
-returns : tie.Need-returns
-returns c = sym (modifier-reserved _ (c .fits .byte .fits))
-
 pub modifier-wrong-spec : {M : Type 1} → statement M
-modifier-wrong-spec = tie.close
-    (tie.spec
-    returns)
+modifier-wrong-spec = tie.close (tie.spec
+    (λ c. sym (modifier-reserved _ (c .fits .byte .fits))))  -- returns

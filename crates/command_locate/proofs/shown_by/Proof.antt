@@ -7,13 +7,8 @@ use Rattle.endings.specs.Ending.{shown}
 use Rattle.command_locate.proofs.shown_by.Statement.{statement}
 use Rattle.command_locate.proofs.shown_by.Tie as tie
 
-returns : tie.Need-returns
-unfolding shown
-returns c = sym (pick-true _ _ _ (eq-eqb _ _ (c .if1 .taken)))
-
-returns-2 : tie.Need-returns-2
-unfolding shown zeros
-returns-2 c = sym (pick-false _ _ _ (ne-eqb _ _ (c .if1 .left)))
-
 pub shown-by-spec : {M : Type 1} → statement M
-shown-by-spec = tie.close (tie.spec returns returns-2)
+unfolding shown zeros
+shown-by-spec = tie.close (tie.spec
+    (λ c. sym (pick-true _ _ _ (eq-eqb _ _ (c .if1 .taken))))  -- returns
+    (λ c. sym (pick-false _ _ _ (ne-eqb _ _ (c .if1 .left)))))  -- returns-2

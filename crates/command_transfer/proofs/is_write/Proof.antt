@@ -7,7 +7,6 @@ use Rattle.command_transfer.proofs.is_write.Tie as tie
 
 pub is-write-spec : {M : Type 1} → statement M
 unfolding oneOf
-is-write-spec = tie.close
-    (tie.spec
+is-write-spec = tie.close (tie.spec
     (λ c. simp (eq-eqb _ _ (c .if1 .taken)))  -- returns
     (λ c. simp (ne-eqb _ _ (c .if1 .left), or-false)))  -- returns-2

@@ -9,8 +9,7 @@ lies : (c : tie.Start) → Placed (c .args .d) (c .args .s .extent) (c .args .s 
 lies c = placed (c .args .d) (c .args .s) (c .args .store .now) (c .pre .0) (c .pre .1)
 
 pub located-move-spec : {M : Type 1} → statement M
-located-move-spec = tie.close
-    (tie.spec
+located-move-spec = tie.close (tie.spec
     (λ c. omega (arith, lies (c .before .before .before .before .before) .product))  -- mul-can
     (λ c κs. lies (c .before .before .before .before .before) .from-first)  -- address-requires
     (search needs)  -- least-requires

@@ -23,9 +23,7 @@ returns-3 c u =
     read-ends (through (m .before)) (m .before .before .before .before .before .before .before .before .pre .2) (c .read-done .ensures) (m .located-move .ensures) (stored .read-blocks .ensures)
 
 pub read-spec : {M : Type 1} → statement M
-read-spec =
-    tie.close
-    (tie.spec
+read-spec = tie.close (tie.spec
     (search needs)  -- after-locate-requires
     (search needs)  -- refuse-requires
     (λ c u. no-locate (reading (c .before .before .before .before .before .before .pre)) (c .before .before .after-locate .ensures) (c .before .if1 .taken) (c .refuse .ensures))  -- returns

@@ -7,8 +7,7 @@ use Rattle.command_transfer.proofs.whole_device.Tie as tie
 
 pub whole-device-spec : {M : Type 1} → statement M
 unfolding wholeDevice
-whole-device-spec = tie.close
-    (tie.spec
+whole-device-spec = tie.close (tie.spec
     (search needs)  -- sub-last
     (search needs)  -- cast-last
     (λ c. refl))  -- returns

@@ -31,9 +31,7 @@ returns-3 c u =
     write-ends (through (m .before .before)) (m .before .before .before .before .before .before .before .before .before .pre .2) (c .write-done .ensures) (m .located-move .ensures) (stored .store-blocks .ensures)
 
 pub write-spec : {M : Type 1} → statement M
-write-spec =
-    tie.close
-    (tie.spec
+write-spec = tie.close (tie.spec
     (search needs)  -- after-locate-requires
     (search needs)  -- refuse-requires
     (λ c u. no-locate (writing (c .before .before .before .before .before .before .pre)) (c .before .before .after-locate .ensures) (c .before .if1 .taken) (c .refuse .ensures))  -- returns

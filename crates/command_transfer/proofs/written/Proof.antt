@@ -9,8 +9,7 @@ use Rattle.command_transfer.proofs.written.Tie as tie
 
 pub written-spec : {M : Type 1} → statement M
 unfolding writtenBy
-written-spec = tie.close
-    (tie.spec
+written-spec = tie.close (tie.spec
     (search needs)  -- written-counted-requires
     (λ c. c .written-counted .ensures ∙ sym (pick-true _ _ _ (eq-eqb _ _ (c .before .if1 .taken))))  -- returns
     (λ c. sym (pick-false _ _ _ (ne-eqb _ _ (c .if1 .left)))))  -- returns-2

@@ -3,11 +3,7 @@ use borrow.Author.Needs.{needs}
 use Rattle.log.proofs.written_counted.Statement.{statement}
 use Rattle.log.proofs.written_counted.Tie as tie
 
-returns : tie.Need-returns
-returns c = rw (c .added3 .ensures)
-
 pub written-counted-spec : {M : Type 1} → statement M
-written-counted-spec = tie.close
-    (tie.spec
+written-counted-spec = tie.close (tie.spec
     (search needs)  -- added3-requires
-    returns)
+    (λ c. rw (c .added3 .ensures)))  -- returns

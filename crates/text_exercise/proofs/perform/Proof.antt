@@ -16,9 +16,7 @@ returns : tie.Need-returns
 returns c = rw (c .before .before .before .before .before .before .before .before .before .before .before .before .before .before .before .before .before .before .before .before .before .before .settings-in .ensures, front-is (c .before .before .before .before .before .before .before .before .before .before .before .before .before .before .before .before .storage-in .ensures), front-is (c .before .before .before .before .before .before .before .before .before .before .before .before .before .before .before .before .before .before .before .before .chain-in .ensures)) at (c .before .before .before .before .before .before .before .before .run-on-device .ensures)
 
 pub perform-spec : {M : Type 1} → statement M
-perform-spec =
-    tie.close
-    (tie.spec
+perform-spec = tie.close (tie.spec
     (search needs)  -- settings-in-requires
     (search needs)  -- chain-in-requires
     (search needs)  -- storage-in-requires

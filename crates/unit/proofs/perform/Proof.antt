@@ -19,9 +19,7 @@ returns-9 c =
 
 pub perform-spec : {M : Type 1} → statement M
 unfolding oneOf
-perform-spec =
-    tie.close
-    (tie.spec
+perform-spec = tie.close (tie.spec
     (λ c κs. let at = c .before .before in let pre = at .before .before .before .pre in (pre .0, pre .1, at .match .keys1))  -- define-extent-requires
     (λ c κs. let at = c .before in let pre = at .before .before .before .pre in (pre .1, at .match .keys2))  -- locate-requires
     (λ c κs. let at = c .before .before in let pre = at .before .before .before .pre in (pre .0, pre .1, at .match .keys3))  -- read-requires

@@ -1,5 +1,5 @@
 -- `step` meets its contract: the channel's table, then the unit's, then the command's own. Assumes nothing.
-use mathlib.Core.Path.{_≡_, sym, _∙_}
+use mathlib.Core.Path.{sym, _∙_}
 use borrow.Author.Needs.{needs}
 use Rattle.model.proofs.Steps.{channel-room}
 use Rattle.unit_state.specs.Standing.{stateOf}
@@ -46,13 +46,8 @@ perform-requires c κs =
       other,
     )
 
-returns-4 : tie.Need-returns-4
-returns-4 c = c .before .before .before .before .perform .ensures
-
 pub step-spec : {M : Type 1} → statement M
-step-spec =
-    tie.close
-    (tie.spec
+step-spec = tie.close (tie.spec
     (search needs)  -- channel-cause-requires
     (search needs)  -- refuse-requires
     (search needs)  -- same-length
@@ -68,4 +63,4 @@ step-spec =
     perform-requires
     (search needs)  -- same-length-4
     (search needs)  -- same-length-5
-    returns-4)
+    (λ c. c .before .before .before .before .perform .ensures))  -- returns-4

@@ -11,9 +11,7 @@ use Rattle.numbers.proofs.Bits.{same-on-bytes}
 use Rattle.model.proofs.ccw.Flags.others.Statement.{statement}
 use Rattle.model.proofs.ccw.Flags.others.Tie as tie
 
-returns : tie.Need-returns
-unfolding bit anyBit
-returns c = same-on-bytes (λ (b : ℕ). not (eqb (bitAnd b 0x9F) 0)) (λ (b : ℕ). anyBit b (0 ∷ 3 ∷ 4 ∷ 5 ∷ 6 ∷ 7 ∷ [])) refl (c .before .args .self .0) (search needs)
-
 pub others-spec : {M : Type 1} → statement M
-others-spec = tie.close (tie.spec returns)
+unfolding bit anyBit
+others-spec = tie.close (tie.spec
+    (λ c. same-on-bytes (λ (b : ℕ). not (eqb (bitAnd b 0x9F) 0)) (λ (b : ℕ). anyBit b (0 ∷ 3 ∷ 4 ∷ 5 ∷ 6 ∷ 7 ∷ [])) refl (c .before .args .self .0) (search needs)))  -- returns

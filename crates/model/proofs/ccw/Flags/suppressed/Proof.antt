@@ -10,9 +10,7 @@ use Rattle.numbers.proofs.Bits.{same-on-bytes}
 use Rattle.model.proofs.ccw.Flags.suppressed.Statement.{statement}
 use Rattle.model.proofs.ccw.Flags.suppressed.Tie as tie
 
-returns : tie.Need-returns
-unfolding bit anyBit
-returns c = same-on-bytes (λ (b : ℕ). not (eqb (bitAnd b 0x20) 0)) (λ (b : ℕ). bit b 2) refl (c .before .args .self .0) (search needs)
-
 pub suppressed-spec : {M : Type 1} → statement M
-suppressed-spec = tie.close (tie.spec returns)
+unfolding bit anyBit
+suppressed-spec = tie.close (tie.spec
+    (λ c. same-on-bytes (λ (b : ℕ). not (eqb (bitAnd b 0x20) 0)) (λ (b : ℕ). bit b 2) refl (c .before .args .self .0) (search needs)))  -- returns

@@ -6,8 +6,7 @@ use Rattle.model.proofs.kind.Kind.of.Tie as tie
 
 pub of-spec : {M : Type 1} → statement M
 unfolding oneOf
-of-spec = tie.close
-    (tie.spec
+of-spec = tie.close (tie.spec
     (λ c. rw (c .match .keys1))
     (λ c. rw (c .match .keys2))
     (λ c. rw (c .match .keys3))
