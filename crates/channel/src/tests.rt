@@ -1,5 +1,6 @@
 // The channel's own tests of a command, causes 13 and 10 to 12: the way in is `channel_cause`, which is 0 where the unit sees the command.
 use model::ccw::Ccw;
+use model::command;
 ghost use mathlib.Core.Path.{_≡_};
 ghost use mathlib.Core.Bool.{not, _&&_};
 ghost use mathlib.Core.List.{[], _∷_};
@@ -8,8 +9,6 @@ ghost use Rattle.numbers.specs.Choice.{_<?_, _=?_, oneOf};
 ghost use Rattle.model.specs.Names.{NO-OPERATION};
 ghost use Rattle.model.specs.Rules.{firstOf};
 ghost use Rattle.model.specs.Causes.{channelCauses};
-
-const NO_OPERATION: u8 = 0x03;
 
 // The low four bits are 0 or 8: to the channel, no command.
 fn no_command(command: u8) -> bool
@@ -23,7 +22,7 @@ fn leaves_storage(c: Ccw, held: usize) -> bool
     requires { ⌜ (c .count < 65536) × (c .address < 16777216) ⌝ }
     ensures { λ r. ⌜ r ≡ (not (c .command =? NO-OPERATION) && held <? c .address + c .count) ⌝ }
 {
-    if c.command == NO_OPERATION {
+    if c.command == command::NO_OPERATION {
         return false;
     }
     held < c.address + c.count

@@ -9,6 +9,7 @@ use model::ccw::Ccw;
 use model::extent::Displacement;
 use model::extent::Extent;
 use model::extent::Located;
+use model::operation;
 use model::record::Record;
 use storage::fetch;
 use unit_state::Running;
@@ -24,6 +25,7 @@ ghost use Rattle.numbers.specs.Choice.{pick, oneOf};
 ghost use Rattle.model.specs.declared.device.Device.{Device};
 ghost use Rattle.model.specs.Names.{LOCATE};
 ghost use Rattle.model.specs.Rules.{firstOf};
+ghost use Rattle.model.specs.Lent.{fetched};
 ghost use Rattle.model.specs.Parameters.{locateLength, locatedIn, operations, writes, forbids, outside};
 ghost use Rattle.model.specs.Causes.{locationCauses, permissionCauses};
 ghost use Rattle.model.specs.Commands.{performed};
@@ -79,16 +81,16 @@ pub fn located_in(p: &[u8]) -> Located
     }
 }
 
-// 1 write, 2 read replicated, 4 format, 5 write and check, 6 read.
-fn is_operation(operation: u32) -> bool
-    ensures { λ r. ⌜ r ≡ oneOf operations operation ⌝ }
+// One of the five.
+fn is_operation(code: u32) -> bool
+    ensures { λ r. ⌜ r ≡ oneOf operations code ⌝ }
 {
-    match operation {
-        1 => true,
-        2 => true,
-        4 => true,
-        5 => true,
-        6 => true,
+    match code {
+        operation::WRITE_DATA => true,
+        operation::READ_REPLICATED => true,
+        operation::FORMAT => true,
+        operation::WRITE_CHECK => true,
+        operation::READ_DATA => true,
         _ => false,
     }
 }
@@ -100,7 +102,7 @@ fn count_wrong(l: Located) -> bool
     if l.blocks == 0 {
         return true;
     }
-    if l.operation != 4 {
+    if l.operation != operation::FORMAT {
         return false;
     }
     l.blocks != 1
@@ -111,7 +113,7 @@ fn replication_wrong(l: Located, replication: usize) -> bool
     requires { ⌜ (l .blocks ≡ 0 → ⊥) ⌝ }
     ensures { λ r. ⌜ r ≡ (eqb (l .operation) 2 && (ltb replication (l .blocks) || not (eqb (replication % l .blocks) 0))) ⌝ }
 {
-    if l.operation != 2 {
+    if l.operation != operation::READ_REPLICATED {
         return false;
     }
     let unit = l.blocks;
@@ -125,7 +127,7 @@ fn replication_wrong(l: Located, replication: usize) -> bool
 fn blocks_processed(l: Located, replication: usize) -> usize
     ensures { λ r. ⌜ r ≡ pick (eqb (l .operation) 2) replication (l .blocks) ⌝ }
 {
-    if l.operation == 2 {
+    if l.operation == operation::READ_REPLICATED {
         replication
     } else {
         l.blocks
@@ -161,19 +163,19 @@ fn mask_forbids(mask: u32, operation: u32) -> bool
 }
 
 // The unit is read-only, and the operation writes or formats.
-fn write_inhibited(read_only: u8, operation: u32) -> bool
-    ensures { λ r. ⌜ r ≡ (not (eqb «read_only» 0) && (writes operation || eqb operation 4)) ⌝ }
+fn write_inhibited(read_only: u8, code: u32) -> bool
+    ensures { λ r. ⌜ r ≡ (not (eqb «read_only» 0) && (writes code || eqb code 4)) ⌝ }
 {
     if read_only == 0 {
         return false;
     }
-    if operation == 1 {
+    if code == operation::WRITE_DATA {
         return true;
     }
-    if operation == 5 {
+    if code == operation::WRITE_CHECK {
         return true;
     }
-    operation == 4
+    code == operation::FORMAT
 }
 
 // What is asked for is within the extent, and the mask, the switch and the alternates allow it.
@@ -191,7 +193,7 @@ fn permit(u: Record, s: Running, l: Located, n: usize) -> Location
     if write_inhibited(u.read_only, l.operation) {
         return Location::ReadOnly;
     }
-    if l.operation == 4 {
+    if l.operation == operation::FORMAT {
         return Location::NoAlternate;
     }
     Location::Found
@@ -223,24 +225,29 @@ pub fn locate_parameters(u: Record, s: Running, p: &[u8]) -> Location
 // The bytes that LOCATE moves.
 const LOCATE_LENGTH: usize = 8;
 
-// The parameters that a cause shows: these with 39, else zeros.
-fn shown_by(cause: u8, p: [u8; 8]) -> [u8; 8]
-    ensures { λ r. ⌜ r ≡ shown cause p ⌝ }
+// The parameters that a cause shows: the LOCATE's eight bytes with 39, else zeros.
+fn shown_by(cause: u8, c: Ccw, main: &[u8]) -> [u8; 8]
+    requires { ⌜ Handed c (now main) × (locateLength ≤ c .count) ⌝ }
+    ensures { λ r. ⌜ r ≡ shown cause (fetched c (now (main .entry)) locateLength) ⌝ }
 {
-    if cause == 39 { p } else { [0u8; 8] }
+    let mut p = [0u8; LOCATE_LENGTH];
+    if cause == 39 {
+        fetch(c, main, 0, &mut p, LOCATE_LENGTH);
+    }
+    p
 }
 
 // The command by its eight bytes.
-fn locate_by(u: Record, c: Ccw, s: Running, p: [u8; 8]) -> Ended
-    requires { ⌜ (locateLength ≤ c .count) × (c .count < 65536) ⌝ }
-    ensures { λ r. ⌜ r ≡ locatedBy u c s p ⌝ }
+fn locate_by(u: Record, c: Ccw, s: Running, main: &[u8], p: &[u8]) -> Ended
+    requires { ⌜ Handed c (now main) × (locateLength ≤ c .count) × (now p ≡ fetched c (now main) locateLength) ⌝ }
+    ensures { λ r. ⌜ r ≡ locatedBy u c s (fetched c (now (main .entry)) locateLength) ⌝ }
 {
-    let answer = locate_parameters(u, s, &p);
+    let answer = locate_parameters(u, s, p);
     let cause = answer.number();
     if cause != 0 {
-        return end(c, s, 0, 0, 0, cause, shown_by(cause, p));
+        return end(c, s, 0, 0, 0, cause, shown_by(cause, c, main));
     }
-    let t = locate_set(s, movement_counted(s.counts), located_in(&p));
+    let t = locate_set(s, movement_counted(s.counts), located_in(p));
     accept(c, t, LOCATE_LENGTH, LOCATE_LENGTH, 0)
 }
 
@@ -257,5 +264,5 @@ pub fn locate(u: Record, c: Ccw, s: Running, main: &[u8]) -> Ended
     }
     let mut p = [0u8; LOCATE_LENGTH];
     fetch(c, main, 0, &mut p, LOCATE_LENGTH);
-    locate_by(u, c, s, p)
+    locate_by(u, c, s, main, &p)
 }

@@ -14,6 +14,7 @@ use model::device::Device;
 use model::extent::Displacement;
 use model::extent::Extent;
 use model::extent::Offset;
+use model::operation;
 use model::record::Counts;
 use model::state::Before;
 use slices::least;
@@ -56,22 +57,22 @@ fn none_or_ipl(before: Before) -> bool
     }
 }
 
-fn is_read(operation: u32) -> bool
-    ensures { λ r. ⌜ r ≡ reads operation ⌝ }
+fn is_read(code: u32) -> bool
+    ensures { λ r. ⌜ r ≡ reads code ⌝ }
 {
-    if operation == 6 {
+    if code == operation::READ_DATA {
         return true;
     }
-    operation == 2
+    code == operation::READ_REPLICATED
 }
 
-fn is_write(operation: u32) -> bool
-    ensures { λ r. ⌜ r ≡ writes operation ⌝ }
+fn is_write(code: u32) -> bool
+    ensures { λ r. ⌜ r ≡ writes code ⌝ }
 {
-    if operation == 1 {
+    if code == operation::WRITE_DATA {
         return true;
     }
-    operation == 5
+    code == operation::WRITE_CHECK
 }
 
 // What a transfer moves: from which block, how many bytes it can, and how many it does.
@@ -123,11 +124,11 @@ pub fn read(d: Device, c: Ccw, s: Running, main: &mut [u8], store: &[u8]) -> End
 }
 
 // The counts after a WRITE of so many blocks: those of a write and check are counted.
-fn written(operation: u32, blocks: usize, k: Counts) -> Counts
+fn written(code: u32, blocks: usize, k: Counts) -> Counts
     requires { ⌜ blocks < 4294967296 ⌝ }
-    ensures { λ r. ⌜ r ≡ writtenBy operation blocks k ⌝ }
+    ensures { λ r. ⌜ r ≡ writtenBy code blocks k ⌝ }
 {
-    if operation == 5 {
+    if code == operation::WRITE_CHECK {
         return written_counted(blocks, k);
     }
     k

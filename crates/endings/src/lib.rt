@@ -1,6 +1,7 @@
 // How a command ends, accepted or refused: `end` makes its answer, and says how the unit is left. `accept` and `refuse` are the
 // two ways to it that most commands take.
 use model::ccw::Ccw;
+use model::command;
 use model::kind::Kind;
 use model::status::Channel;
 use model::status::Status;
@@ -17,6 +18,11 @@ ghost use Rattle.endings.specs.Ending.{answerWords, wrongBy, endOf};
 pub struct Answer {
     pub front: usize,
     pub back: usize,
+}
+
+impl Answer {
+    // Its bytes.
+    pub const SIZE: usize = 8;
 }
 
 // `wrong`: so is the length, which the channel marks in the answer.
@@ -39,13 +45,11 @@ fn answer_of(kind: Kind, residual: usize, cause: u8, blocks: usize) -> Answer
     }
 }
 
-const NO_OPERATION: u8 = 0x03;
-
 // The count is not what the command can move, and flag 20 does not say to pass over that. NO-OPERATION moves nothing.
 fn wrong_length(c: Ccw, can: usize) -> bool
     ensures { λ r. ⌜ r ≡ wrongLength c can ⌝ }
 {
-    if c.command == NO_OPERATION {
+    if c.command == command::NO_OPERATION {
         return false;
     }
     if c.flags.suppressed() {

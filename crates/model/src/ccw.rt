@@ -41,3 +41,8 @@ pub struct Ccw {
     pub flags: Flags,
     pub count: usize,
 }
+
+impl Ccw {
+    // Its bytes in a chain.
+    pub const SIZE: usize = 8;
+}

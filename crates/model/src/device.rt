@@ -3,3 +3,8 @@ pub struct Device {
     // the bytes of a block
     pub block: usize,
 }
+
+impl Device {
+    // The bytes of a block of class A.
+    pub const BLOCK_SIZE: usize = 512;
+}

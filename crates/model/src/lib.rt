@@ -1,8 +1,10 @@
 // The unit's own types. What they mean stands in specs/, the unit as a definition.
 pub mod ccw;
+pub mod command;
 pub mod device;
 pub mod extent;
 pub mod kind;
+pub mod operation;
 pub mod record;
 pub mod state;
 pub mod status;

@@ -8,6 +8,11 @@ pub struct Record {
     pub read_only: u8,
 }
 
+impl Record {
+    // Its bytes, as C lends them.
+    pub const SIZE: usize = 34;
+}
+
 // Its counts.
 pub struct Counts {
     pub blocks_read: [u8; 3],

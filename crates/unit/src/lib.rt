@@ -12,6 +12,7 @@ use endings::Ended;
 use endings::accept;
 use endings::refuse;
 use model::ccw::Ccw;
+use model::command;
 use model::device::Device;
 use model::record::Record;
 use unit_state::Running;
@@ -27,19 +28,17 @@ ghost use Rattle.unit_state.specs.Standing.{stateOf, Sound, Handed};
 ghost use Rattle.endings.specs.Ending.{Ends};
 ghost use Rattle.unit.specs.Admission.{Seen};
 
-const NO_OPERATION: u8 = 0x03;
-
 // A unit that is not ready answers SENSE and SENSE TYPE alone.
-fn not_ready(command: u8, ready: u8) -> bool
-    ensures { λ r. ⌜ r ≡ (ready =? 0 && not (oneOf (SENSE ∷ SENSE-TYPE ∷ []) command)) ⌝ }
+fn not_ready(code: u8, ready: u8) -> bool
+    ensures { λ r. ⌜ r ≡ (ready =? 0 && not (oneOf (SENSE ∷ SENSE-TYPE ∷ []) code)) ⌝ }
 {
     if ready != 0 {
         return false;
     }
-    if command == 0x04 {
+    if code == command::SENSE {
         return false;
     }
-    command != 0xE4
+    code != command::SENSE_TYPE
 }
 
 // A command other than NO-OPERATION that the channel passed on to a unit that is ready for it.
@@ -47,16 +46,16 @@ fn perform(d: Device, u: Record, c: Ccw, s: Running, main: &mut [u8], store: &mu
     requires { ⌜ Sound d s (now store) × Handed c (now main) × Seen c u (now main) × (c .command ≡ NO-OPERATION → ⊥) ⌝ }
     ensures { λ r. ⌜ Ends u c s r (now (main .exit)) (now (store .exit)) (step d c (stateOf u s) (now (main .entry)) (now (store .entry))) ⌝ }
 {
-    let command = c.command;
-    match command {
-        0x63 => define_extent(d, c, s, main, store),
-        0x43 => locate(u, c, s, main),
-        0x42 => read(d, c, s, main, store),
-        0x41 => write(d, c, s, main, store),
-        0x02 => read_ipl(d, c, s, main, store),
-        0x04 => sense(u, c, s, main),
-        0xE4 => sense_type(c, s, main),
-        0xA4 => read_log(c, s, main),
+    let code = c.command;
+    match code {
+        command::DEFINE_EXTENT => define_extent(d, c, s, main, store),
+        command::LOCATE => locate(u, c, s, main),
+        command::READ => read(d, c, s, main, store),
+        command::WRITE => write(d, c, s, main, store),
+        command::READ_IPL => read_ipl(d, c, s, main, store),
+        command::SENSE => sense(u, c, s, main),
+        command::SENSE_TYPE => sense_type(c, s, main),
+        command::READ_LOG => read_log(c, s, main),
         _ => refuse(c, s, 43),
     }
 }
@@ -72,7 +71,7 @@ pub fn step(d: Device, u: Record, c: Ccw, s: Running, main: &mut [u8], store: &m
     if not_ready(c.command, u.ready) {
         return refuse(c, s, 44);
     }
-    if c.command == NO_OPERATION {
+    if c.command == command::NO_OPERATION {
         return accept(c, passed(s), 0, 0, 0);
     }
     perform(d, u, c, s, main, store)

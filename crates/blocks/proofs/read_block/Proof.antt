@@ -5,8 +5,11 @@ use borrow.Author.Needs.{needs}
 use Rattle.blocks.proofs.read_block.Statement.{statement}
 use Rattle.blocks.proofs.read_block.Tie as tie
 
-pub read-block-spec : {M : Type 1} → statement M
+returns : tie.Need-returns
 unfolding blockAt
+returns c = rw (part-lent, c .before .before .before .before .before .before .place .ensures .0) at (c .before .before .deliver .ensures)
+
+pub read-block-spec : {M : Type 1} → statement M
 read-block-spec = tie.close (tie.spec
     (search needs)  -- place-requires
     (search needs)  -- add-end
@@ -15,4 +18,4 @@ read-block-spec = tie.close (tie.spec
     (search needs)  -- part-deliver-end
     (search needs)  -- deliver-requires
     (search needs)  -- same-length
-    (λ c. rw (part-lent, c .before .before .before .before .before .before .place .ensures .0) at (c .before .before .deliver .ensures)))  -- returns
+    returns)

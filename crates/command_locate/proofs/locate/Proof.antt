@@ -1,5 +1,6 @@
 -- `locate` meets its contract. 30 and 31 are lines of its table; past them the eight bytes are there, and decide. Assumes nothing.
 use mathlib.Core.Path.{refl, _∙_}
+use native.Mathlib.Omega.{arith}
 use borrow.Author.Needs.{needs}
 use borrow.Author.Tests.{lt-ltb}
 use Rattle.slices.specs.Parts.{zeros}
@@ -8,6 +9,7 @@ use Rattle.model.proofs.Verdicts.{first-here, first-later}
 use Rattle.model.proofs.Steps.{performed-as}
 use Rattle.unit_state.specs.Standing.{stateOf}
 use Rattle.endings.proofs.Ends.{refused-by}
+use Rattle.storage.proofs.Laws.{fetched-array}
 use Rattle.command_locate.proofs.Locating.{locate-ends}
 use Rattle.command_locate.proofs.locate.Statement.{statement}
 use Rattle.command_locate.proofs.locate.Tie as tie
@@ -28,13 +30,19 @@ returns-2 c =
     λ d store. refused-by (a .u) (a .c) (a .s) (a .main .now) store _ _ _ 31 _ (performed-as d (a .c) _ (a .main .now) store .locate (first .pre .1))
     (c .refuse2 .ensures) (first-later _ _ (c .before .before .before .if1 .left) ∙ first-here _ _ (lt-ltb _ _ (c .before .if2 .taken))) refl refl
 
-returns-3 : tie.Need-returns-3
+locate-by-requires : tie.Need-locate-by-requires
 unfolding zeros
-returns-3 c =
+locate-by-requires c κs =
     let at = c .before .before .before .before in
     let first = at .before .before .before .before .before in
+    (first .pre .0, at .if2 .left, fetched-array (first .args .c) (first .args .main .now) _ _ (c .before .before .fetch .ensures) (omega (arith, first .pre .0 .area, at .if2 .left)))
+
+returns-3 : tie.Need-returns-3
+returns-3 c =
+    let at = c .before .before .before .before .before in
+    let first = at .before .before .before .before .before in
     let a = first .args in
-    λ d store. locate-ends (a .u) d (a .c) (a .s) (a .main .now) store _ _ (c .locate-by .ensures) (c .before .before .fetch .ensures) (first .pre .0) (first .pre .1) (at .before .before .if1 .left) (at .if2 .left)
+    λ d store. locate-ends (a .u) d (a .c) (a .s) (a .main .now) store _ (c .locate-by .ensures) (first .pre .1) (at .before .before .if1 .left) (at .if2 .left)
 
 pub locate-spec : {M : Type 1} → statement M
 locate-spec = tie.close (tie.spec
@@ -44,5 +52,6 @@ locate-spec = tie.close (tie.spec
     returns-2
     (search needs)  -- slice-aggregate-fetch
     (search needs)  -- fetch-requires
-    (search needs)  -- locate-by-requires
+    (search needs)  -- slice-aggregate-locate-by
+    locate-by-requires
     returns-3)

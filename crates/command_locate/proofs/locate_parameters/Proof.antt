@@ -44,6 +44,22 @@ past-count c = past-operation (c .before .before) ∙ first-later _ _ (sym (c .b
 past-replication : (c : tie.Else4) → Past 4 (c .before .before .before .before .before .before .before .before .before)
 past-replication c = past-count (c .before .before) ∙ first-later _ _ (sym (c .before .replication-wrong .ensures) ∙ c .if4 .left)
 
+returns : tie.Need-returns
+unfolding modifiersIn
+returns c = sym (taken-apart (c .before .before .before) ∙ first-here _ _ (sym (c .before .modifier-wrong .ensures) ∙ c .if1 .taken))
+
+returns-2 : tie.Need-returns-2
+returns-2 c = sym (past-modifiers (c .before .before) ∙ first-here _ _ (ap not (sym (c .before .is-operation .ensures)) ∙ c .if2 .taken))
+
+returns-3 : tie.Need-returns-3
+returns-3 c = sym (past-operation (c .before .before) ∙ first-here _ _ (sym (c .before .count-wrong .ensures) ∙ c .if3 .taken))
+
+replication-wrong-requires : tie.Need-replication-wrong-requires
+replication-wrong-requires c κs = eqb-false _ _ (either-false _ _ (sym (c .before .count-wrong .ensures) ∙ c .if3 .left) .0)
+
+returns-4 : tie.Need-returns-4
+returns-4 c = sym (past-count (c .before .before) ∙ first-here _ _ (sym (c .before .replication-wrong .ensures) ∙ c .if4 .taken))
+
 permit-requires : tie.Need-permit-requires
 permit-requires c κs =
     let is-operation = c .before .before .before .before .before .before .is-operation in
@@ -59,20 +75,19 @@ returns-5 c =
     c .permit .ensures ∙ ap (λ (n : ℕ). firstOf (permissionCauses s located n)) (c .before .blocks-processed .ensures) ∙ sym (past-replication (c .before .before))
 
 pub locate-parameters-spec : {M : Type 1} → statement M
-unfolding modifiersIn
 locate-parameters-spec = tie.close (tie.spec
     (λ c κs. c .before .pre)  -- located-in-requires
     (λ c. eight (c .before .before .before .pre) tt)  -- shared-slice-read-wide
     (λ c κs. tt)  -- wide-requires
     (λ c. eight (c .before .before .before .before .before .pre) tt)  -- shared-slice-read-modifier-wrong
     (λ c κs. tt)  -- modifier-wrong-requires
-    (λ c. sym (taken-apart (c .before .before .before) ∙ first-here _ _ (sym (c .before .modifier-wrong .ensures) ∙ c .if1 .taken)))  -- returns
+    returns
     (λ c κs. tt)  -- is-operation-requires
-    (λ c. sym (past-modifiers (c .before .before) ∙ first-here _ _ (ap not (sym (c .before .is-operation .ensures)) ∙ c .if2 .taken)))  -- returns-2
+    returns-2
     (λ c κs. tt)  -- count-wrong-requires
-    (λ c. sym (past-operation (c .before .before) ∙ first-here _ _ (sym (c .before .count-wrong .ensures) ∙ c .if3 .taken)))  -- returns-3
-    (λ c κs. eqb-false _ _ (either-false _ _ (sym (c .before .count-wrong .ensures) ∙ c .if3 .left) .0))  -- replication-wrong-requires
-    (λ c. sym (past-count (c .before .before) ∙ first-here _ _ (sym (c .before .replication-wrong .ensures) ∙ c .if4 .taken)))  -- returns-4
+    returns-3
+    replication-wrong-requires
+    returns-4
     (λ c κs. tt)  -- blocks-processed-requires
     permit-requires
     returns-5)

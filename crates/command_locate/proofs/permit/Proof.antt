@@ -32,14 +32,33 @@ past-switch : (c : tie.Else3) → Past 3 (c .before .before .before .before .bef
 unfolding permissionCauses stateOf unitOf counted withCounts withSense
 past-switch c = past-mask (c .before .before) ∙ first-later _ _ (sym (c .before .write-inhibited .ensures) ∙ c .if3 .left)
 
-pub permit-spec : {M : Type 1} → statement M
+returns : tie.Need-returns
+unfolding permissionCauses stateOf
+returns c = sym (first-here _ _ (sym (c .before .outside-extent .ensures) ∙ c .if1 .taken))
+
+returns-2 : tie.Need-returns-2
+unfolding permissionCauses stateOf
+returns-2 c = sym (past-extent (c .before .before) ∙ first-here _ _ (sym (c .before .mask-forbids .ensures) ∙ c .if2 .taken))
+
+returns-3 : tie.Need-returns-3
 unfolding permissionCauses stateOf unitOf counted withCounts withSense
+returns-3 c = sym (past-mask (c .before .before) ∙ first-here _ _ (sym (c .before .write-inhibited .ensures) ∙ c .if3 .taken))
+
+returns-4 : tie.Need-returns-4
+unfolding permissionCauses
+returns-4 c = sym (past-switch (c .before .before) ∙ first-here _ _ (eq-eqb _ _ (c .if4 .taken)))
+
+returns-5 : tie.Need-returns-5
+unfolding permissionCauses
+returns-5 c = sym (past-switch (c .before .before) ∙ first-later _ _ (ne-eqb _ _ (c .if4 .left)) ∙ first-none)
+
+pub permit-spec : {M : Type 1} → statement M
 permit-spec = tie.close (tie.spec
     (λ c κs. c .before .pre .1)  -- outside-extent-requires
-    (λ c. sym (first-here _ _ (sym (c .before .outside-extent .ensures) ∙ c .if1 .taken)))  -- returns
+    returns
     (λ c κs. c .before .before .before .pre .0)  -- mask-forbids-requires
-    (λ c. sym (past-extent (c .before .before) ∙ first-here _ _ (sym (c .before .mask-forbids .ensures) ∙ c .if2 .taken)))  -- returns-2
+    returns-2
     (λ c κs. tt)  -- write-inhibited-requires
-    (λ c. sym (past-mask (c .before .before) ∙ first-here _ _ (sym (c .before .write-inhibited .ensures) ∙ c .if3 .taken)))  -- returns-3
-    (λ c. sym (past-switch (c .before .before) ∙ first-here _ _ (eq-eqb _ _ (c .if4 .taken))))  -- returns-4
-    (λ c. sym (past-switch (c .before .before) ∙ first-later _ _ (ne-eqb _ _ (c .if4 .left)) ∙ first-none)))  -- returns-5
+    returns-3
+    returns-4
+    returns-5)

@@ -1,14 +1,26 @@
 -- `shown_by` meets its contract. Assumes nothing.
-use mathlib.Core.Path.{sym}
+use mathlib.Core.Path.{sym, _∙_}
+use native.Mathlib.Omega.{arith}
+use borrow.Author.Needs.{needs}
 use borrow.Author.Tests.{eq-eqb, ne-eqb}
 use Rattle.numbers.proofs.Choice.{pick-true, pick-false}
 use Rattle.slices.specs.Parts.{zeros}
+use Rattle.storage.proofs.Laws.{fetched-array}
 use Rattle.endings.specs.Ending.{shown}
 use Rattle.command_locate.proofs.shown_by.Statement.{statement}
 use Rattle.command_locate.proofs.shown_by.Tie as tie
 
+returns : tie.Need-returns
+unfolding shown zeros
+returns c =
+    let first = c .before .before .before .before .before in
+    fetched-array (first .args .c) (first .args .main .now) _ _ (c .before .fetch .ensures) (omega (arith, first .pre .0 .area, first .pre .1))
+    ∙ sym (pick-true _ _ _ (eq-eqb _ _ (c .before .before .before .if1 .taken)))
+
 pub shown-by-spec : {M : Type 1} → statement M
 unfolding shown zeros
 shown-by-spec = tie.close (tie.spec
-    (λ c. sym (pick-true _ _ _ (eq-eqb _ _ (c .if1 .taken))))  -- returns
+    (search needs)  -- slice-aggregate-fetch
+    (search needs)  -- fetch-requires
+    returns
     (λ c. sym (pick-false _ _ _ (ne-eqb _ _ (c .if1 .left)))))  -- returns-2

@@ -10,10 +10,13 @@ accept-requires c κs =
     let first = c .before .before .before .before in
     (first .pre .2, first .pre .3, omega (arith, c .begun .ensures, begun-least (first .args .d) (first .args .m .n) (first .pre .0), first .pre .2, first .pre .3))
 
+returns : tie.Need-returns
+returns c = rw (c .before .before .after .ensures, c .before .before .before .written .ensures, c .before .begun .ensures) at (c .accept .ensures)
+
 pub write-done-spec : {M : Type 1} → statement M
 write-done-spec = tie.close (tie.spec
     (search needs)  -- written-requires
     (search needs)  -- after-requires
     (search needs)  -- begun-requires
     accept-requires
-    (λ c. rw (c .before .before .after .ensures, c .before .before .before .written .ensures, c .before .begun .ensures) at (c .accept .ensures)))  -- returns
+    returns)

@@ -4,6 +4,9 @@ use borrow.Author.Needs.{needs}
 use Rattle.text_digits.proofs.add_byte.Statement.{statement}
 use Rattle.text_digits.proofs.add_byte.Tie as tie
 
+returns : tie.Need-returns
+returns c = rw (hex-one, ← (c .before .before .before .before .before .before .digit .ensures), ← (c .before .before .before .before .before .digit2 .ensures)) (c .before .before .add .ensures)
+
 pub add-byte-spec : {M : Type 1} → statement M
 add-byte-spec = tie.close (tie.spec
     (search needs)  -- digit-requires
@@ -11,4 +14,4 @@ add-byte-spec = tie.close (tie.spec
     (search needs)  -- slice-aggregate-add
     (search needs)  -- add-requires
     (search needs)  -- same-length
-    (λ c. rw (hex-one, ← (c .before .before .before .before .before .before .digit .ensures), ← (c .before .before .before .before .before .digit2 .ensures)) (c .before .before .add .ensures)))  -- returns
+    returns)

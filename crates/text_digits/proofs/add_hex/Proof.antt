@@ -19,6 +19,9 @@ Inv-loop out₀ at bytes next₀ i₀ i-end out next i = (i ≤ i-end) × (i-end
 abbrev μ-loop : tie.MeasureT-loop
 μ-loop out₀ at bytes next₀ i₀ i-end out next i = i-end - i
 
+loop-holds : tie.Need-loop-holds Inv-loop μ-loop
+loop-holds c = (search needs, search needs, search needs, rw hex-none adds-nil)
+
 loop-again : tie.Need-loop-again Inv-loop μ-loop
 loop-again c =
     let l = c .before .before .before .before .before .before .loop in
@@ -33,7 +36,7 @@ pub add-hex-spec : {M : Type 1} → statement M
 add-hex-spec = tie.close (tie.spec
     Inv-loop
     μ-loop
-    (λ c. (search needs, search needs, search needs, rw hex-none adds-nil))  -- loop-holds
+    loop-holds
     (search needs)  -- shared-slice-read-add-byte
     (search needs)  -- add-byte-requires
     (search needs)  -- add-i

@@ -5,9 +5,16 @@ use borrow.Author.Needs.{needs}
 use Rattle.text_digits.proofs.is_hex.Statement.{statement}
 use Rattle.text_digits.proofs.is_hex.Tie as tie
 
-pub is-hex-spec : {M : Type 1} → statement M
+returns : tie.Need-returns
 unfolding isHex
+returns c = simp (ne-eqb _ _ (c .if1 .taken))
+
+returns-2 : tie.Need-returns-2
+unfolding isHex
+returns-2 c = simp (eq-eqb _ _ (c .before .if1 .left)) (c .all-digits .ensures)
+
+pub is-hex-spec : {M : Type 1} → statement M
 is-hex-spec = tie.close (tie.spec
-    (λ c. simp (ne-eqb _ _ (c .if1 .taken)))  -- returns
+    returns
     (search needs)  -- all-digits-requires
-    (λ c. simp (eq-eqb _ _ (c .before .if1 .left)) (c .all-digits .ensures)))  -- returns-2
+    returns-2)

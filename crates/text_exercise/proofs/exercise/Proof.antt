@@ -6,17 +6,20 @@ use borrow.Author.Needs.{needs}
 use Rattle.text_exercise.proofs.exercise.Statement.{statement}
 use Rattle.text_exercise.proofs.exercise.Tie as tie
 
+returns : tie.Need-returns
+unfolding exercise pick
+returns c = rw (← (c .before .before .before .before .before .wrong-line .ensures), ne-eqb _ _ (c .before .before .before .before .if1 .taken)) (c .before .before .refuse .ensures)
+
 returns-2 : tie.Need-returns-2
 unfolding exercise pick
 returns-2 c = rw (← (c .before .before .before .before .before .before .before .before .before .before .before .before .before .wrong-line .ensures), eq-eqb _ _ (c .before .before .before .before .before .before .before .before .before .before .before .before .if1 .left)) (c .before .before .before .before .before .before .perform .ensures)
 
 pub exercise-spec : {M : Type 1} → statement M
-unfolding exercise pick
 exercise-spec = tie.close (tie.spec
     (search needs)  -- wrong-line-requires
     (search needs)  -- refuse-requires
     (search needs)  -- same-length
-    (λ c. rw (← (c .before .before .before .before .before .wrong-line .ensures), ne-eqb _ _ (c .before .before .before .before .if1 .taken)) (c .before .before .refuse .ensures))  -- returns
+    returns
     (search needs)  -- slice-aggregate-perform
     (search needs)  -- slice-aggregate-perform-2
     (search needs)  -- slice-aggregate-perform-3

@@ -19,6 +19,10 @@ Inv-loop input at₀ n₀ at n = (at ≤ length input) × (n ≤ at + 1) × (wro
 abbrev μ-loop : tie.MeasureT-loop
 μ-loop input at₀ n₀ at n = length input - at
 
+loop-holds : tie.Need-loop-holds Inv-loop μ-loop
+unfolding wrongLine
+loop-holds c = (search needs, search needs, refl)
+
 returns : tie.Need-returns Inv-loop μ-loop
 unfolding part
 returns c =
@@ -35,12 +39,19 @@ loop-again c =
     let after = line-ends-after (c .before .before .before .before .before .before .before .args .input .now) (l .at) _ (c .before .before .before .line-end .ensures .0) (search needs) in
     (search needs, omega (arith, after), right-here (c .before .before .before .before .before .before .before .args .input .now) (l .at) (l .n) _ _ _ (l .inv .2) (c .before .before .before .line-end .ensures .0) (c .before .right-line .ensures) (search needs) (not-false _ (c .if1 .left)))
 
+returns-2 : tie.Need-returns-2 Inv-loop μ-loop
+unfolding pick
+returns-2 c = sym (wrong-at-end (c .before .before .before .before .args .input .now) (c .before .before .loop .at) (c .before .before .loop .n) _ (c .before .before .loop .inv .2) (search needs) ∙ simp (lt-ltb _ _ (c .if2 .taken)))
+
+returns-3 : tie.Need-returns-3 Inv-loop μ-loop
+unfolding pick
+returns-3 c = sym (wrong-at-end (c .before .before .before .before .args .input .now) (c .before .before .loop .at) (c .before .before .loop .n) _ (c .before .before .loop .inv .2) (search needs) ∙ simp (le-ltb _ _ (c .if2 .left)))
+
 pub wrong-line-spec : {M : Type 1} → statement M
-unfolding wrongLine pick
 wrong-line-spec = tie.close (tie.spec
     Inv-loop
     μ-loop
-    (λ c. (search needs, search needs, refl))  -- loop-holds
+    loop-holds
     (search needs)  -- line-end-requires
     (search needs)  -- sub-right-line
     (search needs)  -- part-right-line-start
@@ -50,5 +61,5 @@ wrong-line-spec = tie.close (tie.spec
     (search needs)  -- add-n
     loop-less
     loop-again
-    (λ c. sym (wrong-at-end (c .before .before .before .before .args .input .now) (c .before .before .loop .at) (c .before .before .loop .n) _ (c .before .before .loop .inv .2) (search needs) ∙ simp (lt-ltb _ _ (c .if2 .taken))))  -- returns-2
-    (λ c. sym (wrong-at-end (c .before .before .before .before .args .input .now) (c .before .before .loop .at) (c .before .before .loop .n) _ (c .before .before .loop .inv .2) (search needs) ∙ simp (le-ltb _ _ (c .if2 .left)))))  -- returns-3
+    returns-2
+    returns-3)
