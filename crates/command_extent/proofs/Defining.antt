@@ -1,10 +1,9 @@
 -- DEFINE EXTENT once its sixteen bytes were fetched. No contract cites this file.
 --     define-ends   what its parameters decide is what the command does
-use Prim.Native.Nat.{ℕ, _+_, _≤_, _<_}
+use Prim.Native.Nat.{ℕ, _≤_}
 use mathlib.Core.Path.{_≡_, refl, sym, ap, _∙_}
 use mathlib.Core.Bool.{false, and-false}
 use mathlib.Core.List.{List}
-use lib.ListN.{length}
 use native.Mathlib.Omega.{arith}
 use borrow.Author.Tests.{le-ltb, ne-eqb}
 use Rattle.numbers.proofs.Choice.{pick-false}
@@ -20,7 +19,7 @@ use Rattle.model.specs.Parameters.{extentLength, extentIn}
 use Rattle.model.specs.Causes.{extentCauses, defineExtentCauses}
 use Rattle.model.specs.Commands.{out, ended, cleared, defineDone, defineExtent, decided, performed}
 use Rattle.model.proofs.Verdicts.{first-later, never-given}
-use Rattle.model.proofs.Steps.{performed-define}
+use Rattle.model.proofs.Steps.{performed-as}
 use Rattle.storage.specs.Area.{fetchedFrom}
 use Rattle.storage.proofs.Laws.{fetched-array}
 use Rattle.unit_state.specs.declared.Running.{Running}
@@ -45,7 +44,7 @@ module _ (u : Record) (dev : Device) (c : Ccw) (s : Running) (main store : List 
       let verdict : firstOf (defineExtentCauses dev (blockCount dev store) c (stateOf u s) (fetched c main extentLength)) ≡ firstOf (extentCauses dev (blockCount dev store) (fetched c main extentLength))
       = first-later _ _ (le-ltb _ _ l) ∙ first-later _ _ n in
       decided-by u c s main store _ _ _ (withExtent s (s .counts) (extentIn (fetched c main extentLength)) Other) extentLength (zeros 8) r
-      (performed-define dev c (stateOf u s) main store k ∙ ap (λ (v : ℕ). decided c (stateOf u s) main store v (defineExtent c (cleared (stateOf u s)) main store)) verdict)
+      (performed-as dev c (stateOf u s) main store .define-extent k ∙ ap (λ (v : ℕ). decided c (stateOf u s) main store v (defineExtent c (cleared (stateOf u s)) main store)) verdict)
       (e ∙ rw (b, bytes) refl)
       (λ _. sym (pick-false _ _ _ (ne-eqb _ _ (never-given 39 (extentCauses dev (blockCount dev store) (fetched c main extentLength)) refl (λ z. omega arith)))))
       (rw k (sym (and-false (s .kept))))

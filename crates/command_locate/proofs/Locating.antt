@@ -18,7 +18,7 @@ use Rattle.model.specs.Parameters.{locateLength, locatedIn}
 use Rattle.model.specs.Causes.{locationCauses, locateCauses}
 use Rattle.model.specs.Commands.{out, ended, cleared, locateDone, locate, decided, performed}
 use Rattle.model.proofs.Verdicts.{first-later}
-use Rattle.model.proofs.Steps.{performed-locate}
+use Rattle.model.proofs.Steps.{performed-as}
 use Rattle.log.specs.Counts.{withMovement}
 use Rattle.log.proofs.Counting.{movement-counted}
 use Rattle.storage.proofs.Laws.{fetched-length}
@@ -45,5 +45,5 @@ module _ (u : Record) (dev : Device) (c : Ccw) (s : Running) (main store : List 
       let verdict : firstOf (locateCauses c (stateOf u s) (fetched c main locateLength)) ≡ firstOf (locationCauses (stateOf u s) (fetched c main locateLength))
       = first-later _ _ n ∙ first-later _ _ (le-ltb _ _ l) in
       decided-by u c s main store _ _ _ (withLocate s (withMovement (s .counts)) (locatedIn (fetched c main locateLength))) locateLength (shown _ (fetched c main locateLength)) r
-      (performed-locate dev c (stateOf u s) main store k ∙ ap (λ (v : ℕ). decided c (stateOf u s) main store v (locate c (cleared (stateOf u s)) main store)) verdict)
+      (performed-as dev c (stateOf u s) main store .locate k ∙ ap (λ (v : ℕ). decided c (stateOf u s) main store v (locate c (cleared (stateOf u s)) main store)) verdict)
       e (λ _. refl) (rw k (sym (and-false (s .kept)))) (located-out (fetched c main locateLength))

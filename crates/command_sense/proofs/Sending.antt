@@ -17,7 +17,7 @@ use Rattle.model.specs.Names.{NO-OPERATION, SENSE, SENSE-TYPE, READ-LOG}
 use Rattle.model.specs.Lent.{delivered}
 use Rattle.model.specs.Log.{withSense, withCounts, logOf, logReset}
 use Rattle.model.specs.Commands.{Out, after, cleared, sent, sense, senseType, readLog, performed}
-use Rattle.model.proofs.Steps.{performed-sense, performed-sense-type, performed-read-log}
+use Rattle.model.proofs.Steps.{performed-as}
 use Rattle.log.specs.Counts.{counted, noCounts}
 use Rattle.log.proofs.Counting.{none-counted}
 use Rattle.unit_state.specs.declared.Running.{Running}
@@ -54,14 +54,14 @@ module _ (u : Record) (dev : Device) (c : Ccw) (s : Running) (main store : List 
       → main′ ≡ delivered c main (take (min (c .count) (length bytes)) bytes) → Ends u c s r main′ store (performed dev c (stateOf u s) main store)
   unfolding sense
   sense-ends k b l e m =
-      sent-ends _ (stateOf u s) SENSE 24 _ (s .counts) (performed-sense dev c (stateOf u s) main store k ∙ ap (λ (bs : List ℕ). sent c (stateOf u s) main store 24 bs (withSense (stateOf u s .unit) (zeros 24))) (sym (b ∙ found-sense)))
+      sent-ends _ (stateOf u s) SENSE 24 _ (s .counts) (performed-as dev c (stateOf u s) main store .sense k ∙ ap (λ (bs : List ℕ). sent c (stateOf u s) main store 24 bs (withSense (stateOf u s .unit) (zeros 24))) (sym (b ∙ found-sense)))
       k refl l e m (cleared-on ∙ sensed)
 
   pub type-ends : c .command ≡ SENSE-TYPE → bytes ≡ 0xFF ∷ 0x00 ∷ 0x97 ∷ 0x01 ∷ 0x05 ∷ 0x12 ∷ 0x01 ∷ [] → r ≡ sentEnd c s (length bytes) (s .counts)
       → main′ ≡ delivered c main (take (min (c .count) (length bytes)) bytes) → Ends u c s r main′ store (performed dev c (stateOf u s) main store)
   unfolding senseType
   type-ends k b e m =
-      sent-ends _ (cleared (stateOf u s)) SENSE-TYPE 7 _ (s .counts) (performed-sense-type dev c (stateOf u s) main store k ∙ ap (λ (bs : List ℕ). sent c (cleared (stateOf u s)) main store 7 bs (cleared (stateOf u s) .unit)) (sym b))
+      sent-ends _ (cleared (stateOf u s)) SENSE-TYPE 7 _ (s .counts) (performed-as dev c (stateOf u s) main store .sense-type k ∙ ap (λ (bs : List ℕ). sent c (cleared (stateOf u s)) main store 7 bs (cleared (stateOf u s) .unit)) (sym b))
       k refl (rw b refl) e m cleared-on
 
   pub log-ends : c .command ≡ READ-LOG → ((v : Record) → bytes ≡ logOf (counted v (s .counts))) → length bytes ≡ 24 → r ≡ sentEnd c s (length bytes) noCounts
@@ -70,5 +70,5 @@ module _ (u : Record) (dev : Device) (c : Ccw) (s : Running) (main store : List 
   log-ends k b l e m =
       let v : Record = cleared (stateOf u s) .unit in
       let same : bytes ≡ logOf v = b v ∙ ap logOf (same-counts u s) in
-      sent-ends _ (cleared (stateOf u s)) READ-LOG 24 _ noCounts (performed-read-log dev c (stateOf u s) main store k ∙ ap (λ (bs : List ℕ). sent c (cleared (stateOf u s)) main store 24 bs (logReset v)) (sym same))
+      sent-ends _ (cleared (stateOf u s)) READ-LOG 24 _ noCounts (performed-as dev c (stateOf u s) main store .read-log k ∙ ap (λ (bs : List ℕ). sent c (cleared (stateOf u s)) main store 24 bs (logReset v)) (sym same))
       k refl l e m (went-on u s noCounts Other ∙ ap (λ (w : Record). after (cleared (stateOf u s)) w Other) (none-counted v))

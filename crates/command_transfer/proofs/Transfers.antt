@@ -1,7 +1,9 @@
 -- What a sound state says of a transfer, which cause refuses one, and that a transfer that was done is the command.
 -- No contract cites this file.
 --     Placed, placed                       the located blocks lie in the store, and are not too many
---     no-locate, other-locate, no-cause    the tests of READ and WRITE, and the verdict
+--     Transfer, reading, writing           a sound READ or WRITE
+--     no-locate, other-locate, passed      its two tests: refused by 41, by 42, or let through
+--     Passed, move-asks, done-asks         what that says of the blocks to move, and of the ending
 --     read-ends, write-ends, ipl-ends      the bytes that were moved, and the ending, are the command
 use Prim.Native.Nat.{ℕ, _+_, _*_, _≤_, _<_, min}
 use mathlib.Core.Path.{_≡_, refl, sym, ap, _∙_}
@@ -10,8 +12,10 @@ use mathlib.Core.List.{List, []}
 use lib.ListN.{length, take}
 use native.Mathlib.Nat.{mul-le-mul-left, mul-le-mul-right}
 use native.Mathlib.Omega.{arith}
+use borrow.Author.Tests.{not-false}
 use Rattle.numbers.specs.Choice.{_=?_, pick}
 use Rattle.numbers.proofs.Choice.{pick-both}
+use Rattle.slices.specs.Parts.{zeros}
 use Rattle.model.specs.declared.ccw.Ccw.{Ccw}
 use Rattle.model.specs.declared.device.Device.{Device}
 use Rattle.model.specs.declared.extent.Extent.{Extent}
@@ -19,25 +23,26 @@ use Rattle.model.specs.declared.extent.Located.{Located}
 use Rattle.model.specs.declared.record.Counts.{Counts}
 use Rattle.model.specs.declared.record.Record.{Record}
 use Rattle.model.specs.declared.state.Before.the-variants.{Other, ReadIpl}
+use Rattle.model.specs.State.{State}
 use Rattle.model.specs.Names.{write-check, READ, WRITE, READ-IPL}
 use Rattle.model.specs.Rules.{firstOf}
 use Rattle.model.specs.Lent.{fetched, delivered, blockCount, blocksFrom, blocksInto}
 use Rattle.model.specs.Parameters.{address, reads, writes}
-use Rattle.model.specs.Causes.{a-locate, none-or-ipl, transferCauses, readIplCauses}
-use Rattle.model.specs.Log.{readCounted, writtenCounted, movementCounted}
-use Rattle.model.specs.Commands.{out, ended, after, extentSet, cleared, begun, readDone, read, writeDone, write, wholeDevice, iplDone, readIpl, performed}
+use Rattle.model.specs.Causes.{a-locate, transferCauses, readIplCauses}
+use Rattle.model.specs.Log.{writtenCounted}
+use Rattle.model.specs.Commands.{Out, ended, decided, after, cleared, begun, readDone, read, writeDone, write, wholeDevice, iplDone, readIpl, performed}
 use Rattle.model.proofs.Verdicts.{first-here, first-later, first-none}
 use Rattle.model.proofs.Safety.{on-device}
 use Rattle.model.proofs.Lengths.{in-store}
-use Rattle.model.proofs.Steps.{performed-read, performed-write, performed-read-ipl}
+use Rattle.model.proofs.Steps.{performed-as}
 use Rattle.log.specs.Counts.{counted, withRead, withMovement}
 use Rattle.log.proofs.Counting.{read-counted, written-counted, movement-counted}
 use Rattle.unit_state.specs.declared.Running.{Running}
-use Rattle.unit_state.specs.Standing.{wentOn, withExtent, stateOf, Sound}
+use Rattle.unit_state.specs.Standing.{wentOn, withExtent, stateOf, Sound, Handed}
 use Rattle.unit_state.proofs.Units.{went-on, with-extent, same-counts}
 use Rattle.endings.specs.declared.Ended.{Ended}
-use Rattle.endings.specs.Ending.{Ends}
-use Rattle.endings.proofs.Ends.{accepted-by}
+use Rattle.endings.specs.Ending.{endOf, Ends}
+use Rattle.endings.proofs.Ends.{refused-by, accepted-by}
 use Rattle.command_transfer.specs.declared.Move.{Move}
 use Rattle.command_transfer.specs.Transferred.{moveOf, readEnd, writtenBy, writeEnd, iplEnd}
 
@@ -62,20 +67,55 @@ placed dev s store h b =
     let q = mul-le-mul-left 131072 (h .small-size) in
     record { from-first = safe .located b .1 .from-first; room = in-store dev store _ on; few = few; product = omega (arith, p, q) }
 
+-- a sound READ or WRITE: its table is that of a transfer, and what it does where that gives no cause
+pub record Transfer (follows : ℕ → Bool) (dev : Device) (c : Ccw) (s : Running) (main store : List ℕ) : Type 0 where
+  pub sound : Sound dev s store
+  pub handed : Handed c main
+  pub does : State → Out
+  pub is : (t : State) → performed dev c t main store ≡ decided c t main store (firstOf (transferCauses follows t)) (does t)
+
+module _ {dev : Device} {c : Ccw} {s : Running} {main store : List ℕ} where
+  pub reading : Sound dev s store × Handed c main × (c .command ≡ READ) → Transfer reads dev c s main store
+  reading h = record { sound = h .0; handed = h .1; does = λ t. read dev c (cleared t) main store; is = λ t. performed-as dev c t main store .read (h .2) }
+
+  pub writing : Sound dev s store × Handed c main × (c .command ≡ WRITE) → Transfer writes dev c s main store
+  writing h = record { sound = h .0; handed = h .1; does = λ t. write dev c (cleared t) main store; is = λ t. performed-as dev c t main store .write (h .2) }
+
+-- one that both lines of its table let through
+pub record Passed (follows : ℕ → Bool) (dev : Device) (c : Ccw) (s : Running) (main store : List ℕ) : Type 0 where
+  pub transfer : Transfer follows dev c s main store
+  pub located : a-locate (s .before) ≡ true
+  pub allowed : follows (s .located .operation) ≡ true
+
 -- `b` and `f` are what the code asked: does a LOCATE stand directly before, and may the command follow it
-module _ (follows : ℕ → Bool) (u : Record) (s : Running) (b : Bool) (before : b ≡ a-locate (s .before)) where
-  pub no-locate : not b ≡ true → firstOf (transferCauses follows (stateOf u s)) ≡ 41
+module _ {follows : ℕ → Bool} {dev : Device} {c : Ccw} {s : Running} {main store : List ℕ} (t : Transfer follows dev c s main store) {b : Bool} (before : b ≡ a-locate (s .before)) where
+  pub no-locate : {u : Record} {r : Ended} → not b ≡ true → r ≡ endOf c s 0 0 0 41 (zeros 8) → Ends u c s r main store (performed dev c (stateOf u s) main store)
   unfolding transferCauses stateOf
-  no-locate h = first-here _ _ (ap not (sym before) ∙ h)
+  no-locate {u} {r} h e = refused-by u c s main store _ _ _ 41 r (t .is (stateOf u s)) e (first-here _ _ (ap not (sym before) ∙ h)) refl refl
 
-  module _ (f : Bool) (located : f ≡ follows (s .located .operation)) (h : not b ≡ false) where
-    pub other-locate : not f ≡ true → firstOf (transferCauses follows (stateOf u s)) ≡ 42
+  module _ {f : Bool} (located : f ≡ follows (s .located .operation)) (h : not b ≡ false) where
+    pub other-locate : {u : Record} {r : Ended} → not f ≡ true → r ≡ endOf c s 0 0 0 42 (zeros 8) → Ends u c s r main store (performed dev c (stateOf u s) main store)
     unfolding transferCauses stateOf
-    other-locate k = first-later _ _ (ap not (sym before) ∙ h) ∙ first-here _ _ (ap not (sym located) ∙ k)
+    other-locate {u} {r} k e =
+        refused-by u c s main store _ _ _ 42 r (t .is (stateOf u s)) e (first-later _ _ (ap not (sym before) ∙ h) ∙ first-here _ _ (ap not (sym located) ∙ k)) refl refl
 
-    pub no-cause : not f ≡ false → firstOf (transferCauses follows (stateOf u s)) ≡ 0
-    unfolding transferCauses stateOf
-    no-cause k = first-later _ _ (ap not (sym before) ∙ h) ∙ first-later _ _ (ap not (sym located) ∙ k) ∙ first-none
+    pub passed : not f ≡ false → Passed follows dev c s main store
+    passed k = record { transfer = t; located = sym before ∙ not-false _ h; allowed = sym located ∙ not-false _ k }
+
+-- no cause refuses it, and the code may move the blocks, and end
+
+no-cause : {follows : ℕ → Bool} {dev : Device} {c : Ccw} {s : Running} {main store : List ℕ} (u : Record) → Passed follows dev c s main store → firstOf (transferCauses follows (stateOf u s)) ≡ 0
+unfolding transferCauses stateOf
+no-cause u p = first-later _ _ (ap not (p .located)) ∙ first-later _ _ (ap not (p .allowed)) ∙ first-none
+
+module _ {follows : ℕ → Bool} {dev : Device} {c : Ccw} {s : Running} {main store : List ℕ} (p : Passed follows dev c s main store) {m : Move} (e : m ≡ moveOf dev c s) where
+  pub move-asks : (1 ≤ dev .block) × (dev .block ≤ 65535) × ((m .block + s .located .blocks) * dev .block ≤ length store) × (m .n ≤ s .located .blocks * dev .block) × (c .address + m .n ≤ length main)
+  move-asks =
+      let sound = p .transfer .sound in
+      (sound .some-size, sound .small-size, rw e (placed dev s store sound (p .located) .room), rw e (omega arith), rw e (omega (arith, p .transfer .handed .area)))
+
+  pub done-asks : (1 ≤ dev .block) × (dev .block ≤ 65535) × (c .count < 65536) × (m .n ≤ c .count)
+  done-asks = (p .transfer .sound .some-size, p .transfer .sound .small-size, p .transfer .handed .count, rw e (omega arith))
 
 -- the endings, as the definition has them
 
@@ -105,25 +145,28 @@ module _ (u : Record) (dev : Device) (s : Running) where
   ipl-state n blocks =
       rw (with-extent u s (withMovement (withRead 1 (s .counts))) (wholeDevice dev blocks) ReadIpl, movement-counted (cleared (stateOf u s) .unit) (withRead 1 (s .counts)), read-counted (cleared (stateOf u s) .unit) (s .counts) 1, same-counts u s) refl
 
-module _ (u : Record) (dev : Device) (c : Ccw) (s : Running) (main store : List ℕ) (r : Ended) where
-  pub read-ends : (m : Move) (main′ : List ℕ) → c .command ≡ READ → firstOf (transferCauses reads (stateOf u s)) ≡ 0 → r ≡ readEnd dev c s m → m ≡ moveOf dev c s
+-- a transfer is what its code moved, and its ending
+
+module _ {u : Record} {dev : Device} {c : Ccw} {s : Running} {main store : List ℕ} {r : Ended} {m : Move} where
+  pub read-ends : Passed reads dev c s main store → {main′ : List ℕ} → c .command ≡ READ → r ≡ readEnd dev c s m → m ≡ moveOf dev c s
       → main′ ≡ delivered c main (take (m .n) (blocksFrom dev store (m .block) (s .located .blocks))) → Ends u c s r main′ store (performed dev c (stateOf u s) main store)
   unfolding read cleared after stateOf
-  read-ends m main′ k v e f d =
-      accepted-by u c s main store _ _ _ _ _ _ _ r main′ store (performed-read dev c (stateOf u s) main store k) v (rw f at e) (rw k (sym (and-false (s .kept))))
+  read-ends p {main′} k e f d =
+      accepted-by u c s main store _ _ _ _ _ _ _ r main′ store (performed-as dev c (stateOf u s) main store .read k) (no-cause u p) (rw f at e) (rw k (sym (and-false (s .kept))))
       (rw (read-state u dev s (moveOf dev c s .n) (moveOf dev c s .can), d, f) refl)
 
-  pub write-ends : (m : Move) (store′ : List ℕ) → c .command ≡ WRITE → firstOf (transferCauses writes (stateOf u s)) ≡ 0 → r ≡ writeEnd dev c s m → m ≡ moveOf dev c s
+  pub write-ends : Passed writes dev c s main store → {store′ : List ℕ} → c .command ≡ WRITE → r ≡ writeEnd dev c s m → m ≡ moveOf dev c s
       → store′ ≡ blocksInto dev store (m .block) (s .located .blocks) (fetched c main (m .n)) → Ends u c s r main store′ (performed dev c (stateOf u s) main store)
   unfolding write cleared after stateOf
-  write-ends m store′ k v e f d =
-      accepted-by u c s main store _ _ _ _ _ _ _ r main store′ (performed-write dev c (stateOf u s) main store k) v (rw f at e) (rw k (sym (and-false (s .kept))))
+  write-ends p {store′} k e f d =
+      accepted-by u c s main store _ _ _ _ _ _ _ r main store′ (performed-as dev c (stateOf u s) main store .write k) (no-cause u p) (rw f at e) (rw k (sym (and-false (s .kept))))
       (rw (write-state u dev s (moveOf dev c s .n) (moveOf dev c s .can), d, f) refl)
 
+module _ (u : Record) (dev : Device) (c : Ccw) (s : Running) (main store : List ℕ) (r : Ended) where
   pub ipl-ends : (n blocks : ℕ) (main′ : List ℕ) → c .command ≡ READ-IPL → firstOf (readIplCauses (stateOf u s)) ≡ 0 → r ≡ iplEnd dev c s n blocks → n ≡ min (c .count) (dev .block)
       → blocks ≡ blockCount dev store → main′ ≡ delivered c main (take n (blocksFrom dev store 0 1)) → Ends u c s r main′ store (performed dev c (stateOf u s) main store)
   unfolding readIpl
   ipl-ends n blocks main′ k v e f b d =
       accepted-by u c s main store _ _ _ (withExtent s (withMovement (withRead 1 (s .counts))) (wholeDevice dev (blockCount dev store)) ReadIpl) (min (c .count) (dev .block)) (dev .block) 1 r main′ store
-      (performed-read-ipl dev c (stateOf u s) main store k) v (rw (f, b) at e) (rw k (sym (and-false (s .kept))))
+      (performed-as dev c (stateOf u s) main store .read-ipl k) v (rw (f, b) at e) (rw k (sym (and-false (s .kept))))
       (rw (ipl-state u dev s (min (c .count) (dev .block)) (blockCount dev store), d, f) refl)

@@ -25,13 +25,13 @@ use Rattle.model.specs.Parameters.{locateLength, locatedIn, address, rea
 use Rattle.model.specs.Causes.{channelCauses, unitCauses, extentCauses, defineExtentCauses, permissionCauses, locationCauses, locateCauses, readIplCauses, transferCauses, verdict, a-locate, kindOf}
 use Rattle.model.specs.Sense.{senseOf}
 use Rattle.model.specs.Log.{withSense, movementCounted, logOf, logReset}
-use Rattle.model.specs.Commands.{Out, after, extentSet, locateSet, noOperation, defineExtent, locate, sent, sense, senseType, readLog, begun, read, write, accepted, refusal, refused, seen, decided, step, defineDone, locateDone, readDone, writeDone}
+use Rattle.model.specs.Commands.{Out, after, extentSet, locateSet, noOperation, defineExtent, locate, sent, sense, senseType, readLog, begun, read, write, accepted, refusal, refused, cleared, seen, decided, step, defineDone, locateDone, readDone, writeDone}
 use Rattle.model.specs.Safe.{InExtent, Safe}
 use Rattle.model.specs.Exactly.{absent}
 use Rattle.numbers.proofs.Choice.{pick-both}
 use Rattle.model.proofs.Verdicts.{never-given, failed-upto}
 use Rattle.model.proofs.Leaving.{leaves-both}
-use Rattle.model.proofs.Steps.{Admitted, accepted-cases, past-channel, own-cases, accepted-no-operation, accepted-define, accepted-locate, accepted-read, accepted-write, accepted-sense, accepted-sense-type, accepted-read-log}
+use Rattle.model.proofs.Steps.{Admitted, accepted-cases, past-channel, own-cases, accepted-as}
 use Rattle.model.proofs.Safety.{after-locate, locate-ok, safe-seen}
 use Rattle.model.proofs.Alike.{Place, SoundPlace, States, Mains, Stores, Outs, states-after, mains-put, stores-read, stores-write}
 use Rattle.model.proofs.AlikeVerdicts.{Fits, area, fetched-same, extent-here, extent-there, verdict-same}
@@ -190,7 +190,7 @@ module _ (dev : Device) (F : Place) (c : Ccw) (f : Fits F c) (s t : State) (r : 
 -- any command
 
 states-seen : (F : Place) (c : Ccw) (s t : State) → States F s t → States F (seen c s) (seen c t)
-unfolding seen
+unfolding seen cleared after
 states-seen F c s t r = states-after F s t _ _ _ _ (rw (r .unit)) (r .before) r
 
 module _ (dev : Device) (F : Place) (k : SoundPlace dev F) (c : Ccw) (f : Fits F c) (s t : State) (r : States F s t) (m m′ : List ℕ) (g : Mains F m m′) (x x′ : List ℕ) (h : Stores dev F x x′)
@@ -208,15 +208,15 @@ module _ (dev : Device) (F : Place) (k : SoundPlace dev F) (c : Ccw) (f : Fits F
       accepted-cases dev c s m x P
       (record {
         refusal = λ n o e. absurd (o (sym e ∙ v));
-        no-operation = λ e. rw (accepted-no-operation dev c z m′ x′ e) (no-operation-alike dev F c f y z q m m′ g x x′ h);
-        define-extent = λ a e _. rw (accepted-define dev c z m′ x′ e) (define-alike dev F c f y z q m m′ g x x′ h k e);
-        locate = λ a e l. rw (accepted-locate dev c z m′ x′ e) (locate-alike dev F c f y z q m m′ g x x′ h e (locate-ok c s _ l .long));
-        read = λ a e l. rw (accepted-read dev c z m′ x′ e) (read-alike dev F c f y z q m m′ g x x′ h k safe (after-locate reads s l) a e);
-        write = λ a e l. rw (accepted-write dev c z m′ x′ e) (write-alike dev F c f y z q m m′ g x x′ h k safe (after-locate writes s l) a e);
+        no-operation = λ e. rw (accepted-as dev c z m′ x′ .no-operation e) (no-operation-alike dev F c f y z q m m′ g x x′ h);
+        define-extent = λ a e _. rw (accepted-as dev c z m′ x′ .define-extent e) (define-alike dev F c f y z q m m′ g x x′ h k e);
+        locate = λ a e l. rw (accepted-as dev c z m′ x′ .locate e) (locate-alike dev F c f y z q m m′ g x x′ h e (locate-ok c s _ l .long));
+        read = λ a e l. rw (accepted-as dev c z m′ x′ .read e) (read-alike dev F c f y z q m m′ g x x′ h k safe (after-locate reads s l) a e);
+        write = λ a e l. rw (accepted-as dev c z m′ x′ .write e) (write-alike dev F c f y z q m m′ g x x′ h k safe (after-locate writes s l) a e);
         read-ipl = λ a e _. absurd (f .no-ipl e);
-        sense = λ a e. rw (accepted-sense dev c z m′ x′ e) (sends 24 _ _ _ _ (ap (λ (u : Record). u .sense) (q .unit)) (ap (λ (u : Record). withSense u (zeros 24)) (q .unit)) a (λ d. omega arith) (λ d. omega arith));
-        sense-type = λ a e. rw (accepted-sense-type dev c z m′ x′ e) (sends 7 _ _ _ _ refl (q .unit) a (λ d. omega arith) (λ d. omega arith));
-        read-log = λ a e. rw (accepted-read-log dev c z m′ x′ e) (sends 24 _ _ _ _ (ap logOf (q .unit)) (ap logReset (q .unit)) a (λ d. omega arith) (λ d. omega arith));
+        sense = λ a e. rw (accepted-as dev c z m′ x′ .sense e) (sends 24 _ _ _ _ (ap (λ (u : Record). u .sense) (q .unit)) (ap (λ (u : Record). withSense u (zeros 24)) (q .unit)) a (λ d. omega arith) (λ d. omega arith));
+        sense-type = λ a e. rw (accepted-as dev c z m′ x′ .sense-type e) (sends 7 _ _ _ _ refl (q .unit) a (λ d. omega arith) (λ d. omega arith));
+        read-log = λ a e. rw (accepted-as dev c z m′ x′ .read-log e) (sends 24 _ _ _ _ (ap logOf (q .unit)) (ap logReset (q .unit)) a (λ d. omega arith) (λ d. omega arith));
       })
       v
 

@@ -1,5 +1,6 @@
 -- Bytes stay bytes, and counts fit their fields.
---     IsRecord      a unit record: each field of its length, and of bytes
+--     Sized         so many bytes
+--     IsRecord      a unit record: each field has its bytes
 --     step-fields   one command: record, main storage and store stay bytes; the numbers of its answer fit theirs
 -- Assumes nothing.
 use Prim.Native.Nat.{ℕ, zero, suc, _+_, _-_, _*_, _/_, _≤_, _<_, min}
@@ -26,7 +27,7 @@ use Rattle.model.specs.Parameters.{locateLength}
 use Rattle.model.specs.Causes.{channelCauses, unitCauses, extentCauses, defineExtentCauses, permissionCauses, locationCauses, locateCauses, readIplCauses, transferCauses, ownCauses, causesOf, verdict, kindOf}
 use Rattle.model.specs.Sense.{CauseRow, senseTable, rowIn, senseOf}
 use Rattle.model.specs.Log.{withSense, withCounts, added3, added2, readCounted, writtenCounted, movementCounted, logOf, logReset}
-use Rattle.model.specs.Commands.{Out, noOperation, defineExtent, locate, sent, sense, senseType, readLog, begun, read, write, readIpl, refused, refusal, seen, after, extentSet, locateSet, step, defineDone, iplDone, locateDone, readDone, writeDone}
+use Rattle.model.specs.Commands.{Out, noOperation, defineExtent, locate, sent, sense, senseType, readLog, begun, read, write, readIpl, refused, refusal, cleared, seen, after, extentSet, locateSet, step, defineDone, iplDone, locateDone, readDone, writeDone}
 use Rattle.model.specs.Exactly.{absent}
 use Rattle.numbers.proofs.Choice.{pick-ind}
 use Rattle.numbers.proofs.Joined.{both-true}
@@ -37,100 +38,44 @@ use Rattle.model.proofs.Steps.{past-channel, own-cases, Cases, step-cas
 
 -- the unit record
 
+pub record Sized (n : ℕ) (l : List ℕ) : Type 0 where
+  pub long : length l ≡ n
+  pub bytes : AreBytes l
+
+pub sized-zeros : (n : ℕ) → Sized n (zeros n)
+sized-zeros n = record { long = length-zeros n; bytes = bytes-zeros n }
+
 pub record IsRecord (u : Record) : Type 0 where
-  pub sense-length : length (u .sense) ≡ 24
-  pub read-length : length (u .«blocks_read») ≡ 3
-  pub written-length : length (u .«blocks_written») ≡ 3
-  pub movements-length : length (u .movements) ≡ 2
-  pub sense-bytes : AreBytes (u .sense)
-  pub read-bytes : AreBytes (u .«blocks_read»)
-  pub written-bytes : AreBytes (u .«blocks_written»)
-  pub movements-bytes : AreBytes (u .movements)
+  pub sense : Sized 24 (u .sense)
+  pub read : Sized 3 (u .«blocks_read»)
+  pub written : Sized 3 (u .«blocks_written»)
+  pub movements : Sized 2 (u .movements)
   pub ready-byte : u .ready < 256
   pub read-only-byte : u .«read_only» < 256
 
-sense-record : (u : Record) (l : List ℕ) → length l ≡ 24 → AreBytes l → IsRecord u → IsRecord (withSense u l)
+sense-record : (u : Record) (l : List ℕ) → Sized 24 l → IsRecord u → IsRecord (withSense u l)
 unfolding withSense
-sense-record u l e b r = record {
-  sense-length = e;
-  read-length = r .read-length;
-  written-length = r .written-length;
-  movements-length = r .movements-length;
-  sense-bytes = b;
-  read-bytes = r .read-bytes;
-  written-bytes = r .written-bytes;
-  movements-bytes = r .movements-bytes;
-  ready-byte = r .ready-byte;
-  read-only-byte = r .read-only-byte;
-}
+sense-record u l k r = record { sense = k; read = r .read; written = r .written; movements = r .movements; ready-byte = r .ready-byte; read-only-byte = r .read-only-byte }
 
--- three counts of the right length, and of bytes
-record AreCounts (read written movements : List ℕ) : Type 0 where
-  read-length : length read ≡ 3
-  written-length : length written ≡ 3
-  movements-length : length movements ≡ 2
-  read-bytes : AreBytes read
-  written-bytes : AreBytes written
-  movements-bytes : AreBytes movements
-
-counts-record : (u : Record) (read written movements : List ℕ) → AreCounts read written movements → IsRecord u → IsRecord (withCounts u read written movements)
+counts-record : (u : Record) (read written movements : List ℕ) → Sized 3 read → Sized 3 written → Sized 2 movements → IsRecord u → IsRecord (withCounts u read written movements)
 unfolding withCounts
-counts-record u read written movements k r = record {
-  sense-length = r .sense-length;
-  read-length = k .read-length;
-  written-length = k .written-length;
-  movements-length = k .movements-length;
-  sense-bytes = r .sense-bytes;
-  read-bytes = k .read-bytes;
-  written-bytes = k .written-bytes;
-  movements-bytes = k .movements-bytes;
-  ready-byte = r .ready-byte;
-  read-only-byte = r .read-only-byte;
-}
+counts-record u _ _ _ a b c r = record { sense = r .sense; read = a; written = b; movements = c; ready-byte = r .ready-byte; read-only-byte = r .read-only-byte }
 
 read-counted-record : (n : ℕ) (u : Record) → IsRecord u → IsRecord (readCounted n u)
 unfolding readCounted added3
-read-counted-record n u r = counts-record u _ _ _ (record {
-  read-length = refl;
-  written-length = r .written-length;
-  movements-length = r .movements-length;
-  read-bytes = bytes3-are _;
-  written-bytes = r .written-bytes;
-  movements-bytes = r .movements-bytes;
-}) r
+read-counted-record n u r = counts-record u _ _ _ (record { long = refl; bytes = bytes3-are _ }) (r .written) (r .movements) r
 
 written-counted-record : (n : ℕ) (u : Record) → IsRecord u → IsRecord (writtenCounted n u)
 unfolding writtenCounted added3
-written-counted-record n u r = counts-record u _ _ _ (record {
-  read-length = r .read-length;
-  written-length = refl;
-  movements-length = r .movements-length;
-  read-bytes = r .read-bytes;
-  written-bytes = bytes3-are _;
-  movements-bytes = r .movements-bytes;
-}) r
+written-counted-record n u r = counts-record u _ _ _ (r .read) (record { long = refl; bytes = bytes3-are _ }) (r .movements) r
 
 movement-counted-record : (u : Record) → IsRecord u → IsRecord (movementCounted u)
 unfolding movementCounted added2
-movement-counted-record u r = counts-record u _ _ _ (record {
-  read-length = r .read-length;
-  written-length = r .written-length;
-  movements-length = refl;
-  read-bytes = r .read-bytes;
-  written-bytes = r .written-bytes;
-  movements-bytes = bytes2-are _;
-}) r
+movement-counted-record u r = counts-record u _ _ _ (r .read) (r .written) (record { long = refl; bytes = bytes2-are _ }) r
 
 log-reset-record : (u : Record) → IsRecord u → IsRecord (logReset u)
 unfolding logReset
-log-reset-record u r = counts-record u _ _ _ (record {
-  read-length = length-zeros 3;
-  written-length = length-zeros 3;
-  movements-length = length-zeros 2;
-  read-bytes = bytes-zeros 3;
-  written-bytes = bytes-zeros 3;
-  movements-bytes = bytes-zeros 2;
-}) r
+log-reset-record u r = counts-record u _ _ _ (sized-zeros 3) (sized-zeros 3) (sized-zeros 2) r
 
 -- the sense of a refusal
 
@@ -232,7 +177,7 @@ log-bytes : (u : Record) → IsRecord u → AreBytes (logOf u)
 unfolding logOf
 log-bytes u r =
     bytes-put _ _ _ (bytes-put _ _ _ (bytes-put _ _ _ (bytes-put _ _ _ (bytes-put _ _ _ (bytes-zeros 24)
-    (bytes-tested _ refl)) (bytes-tested _ refl)) (r .read-bytes)) (r .written-bytes)) (r .movements-bytes)
+    (bytes-tested _ refl)) (bytes-tested _ refl)) (r .read .bytes)) (r .written .bytes)) (r .movements .bytes)
 
 -- one command
 
@@ -246,14 +191,14 @@ pub record Fields (c : Ccw) (o : Out) : Type 0 where
 
 module _ (dev : Device) (c : Ccw) (s : State) (main store : List ℕ) (h : 1 ≤ dev .block) (r : IsRecord (s .unit)) (m : AreBytes main) (d : AreBytes store) where
   seen-record : IsRecord (seen c s .unit)
-  unfolding seen after
-  seen-record = pick-ind IsRecord _ _ _ (λ _. r) (λ _. sense-record (s .unit) (zeros 24) (length-zeros 24) (bytes-zeros 24) r)
+  unfolding seen cleared after
+  seen-record = pick-ind IsRecord _ _ _ (λ _. r) (λ _. sense-record (s .unit) (zeros 24) (sized-zeros 24) r)
 
   refused-fields : (w : ℕ) → verdict dev c s main store ≡ w → Fields c (refused c s main store w)
   unfolding refused after fetched
   refused-fields w e = record {
     unit-fields = leaves-ind (λ (t : State). IsRecord (t .unit)) (kindOf w) s w (fetched c main locateLength) r r
-        (sense-record (s .unit) _ (sense-length w _ (λ z. located-bytes dev c s main store (e ∙ z))) (sense-bytes w _ (bytes-part main _ _ m)) r);
+        (sense-record (s .unit) _ (record { long = sense-length w _ (λ z. located-bytes dev c s main store (e ∙ z)); bytes = sense-bytes w _ (bytes-part main _ _ m) }) r);
     main-bytes = m;
     store-bytes = d;
     cause-byte = rw (← e) (verdict-small dev c s main store);
@@ -306,7 +251,7 @@ module _ (dev : Device) (c : Ccw) (s : State) (main store : List ℕ) (h : 1 ≤
           moved-fits = omega arith;
           blocks-fit = a .some;
         };
-        sense = λ _ _. sent-fields 24 _ _ (k .sense-bytes) (sense-record _ _ (length-zeros 24) (bytes-zeros 24) k);
+        sense = λ _ _. sent-fields 24 _ _ (k .sense .bytes) (sense-record _ _ (sized-zeros 24) k);
         sense-type = λ _ _. sent-fields 7 _ _ (bytes-tested _ refl) k;
         read-log = λ _ _. sent-fields 24 _ _ (log-bytes _ k) (log-reset-record _ k);
       }

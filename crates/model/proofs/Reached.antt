@@ -24,7 +24,6 @@ use Rattle.model.specs.declared.ccw.Ccw.{Ccw}
 use Rattle.model.specs.declared.record.Record.{Record}
 use Rattle.model.specs.declared.device.Device.{Device}
 use Rattle.model.specs.State.{State, Done}
-use Rattle.numbers.specs.Choice.{pick}
 use Rattle.model.specs.Rules.{firstOf}
 use Rattle.model.specs.Lent.{ccwSize, ccwAt, fetched}
 use Rattle.model.specs.Parameters.{locateLength}

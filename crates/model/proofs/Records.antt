@@ -2,7 +2,7 @@
 --     record-bytes-length, record-bytes, record-of   34 bytes hold a unit record, and a unit record has 34 bytes
 --     record-back, bytes-back                        nothing is lost on either way
 -- No contract cites this file.
-use Prim.Native.Nat.{ℕ, _+_}
+use Prim.Native.Nat.{ℕ, _+_, _≤_}
 use mathlib.Core.Path.{_≡_, refl, sym, ap, _∙_}
 use mathlib.Core.List.{List, [], _∷_, _++_, append-assoc}
 use lib.ListN.{length, getD, drop, length-append, take-append-drop, drop-of-length-le}
@@ -14,32 +14,30 @@ use Rattle.slices.specs.Parts.{part}
 use Rattle.slices.proofs.Laws.{length-part, part-between, take-part, bytes-part}
 use Rattle.model.specs.declared.record.Record.{Record}
 use Rattle.model.specs.Lent.{recordSize, recordBytes, recordOf}
-use Rattle.model.proofs.Fields.{IsRecord}
+use Rattle.model.proofs.Fields.{Sized, IsRecord}
 
 pub record-bytes-length : (u : Record) → IsRecord u → length (recordBytes u) ≡ recordSize
 unfolding recordBytes
-record-bytes-length u r = simp (length-append, r .sense-length, r .read-length, r .written-length, r .movements-length)
+record-bytes-length u r = simp (length-append, r .sense .long, r .read .long, r .written .long, r .movements .long)
 
 pub record-bytes : (u : Record) → IsRecord u → AreBytes (recordBytes u)
 unfolding recordBytes
 record-bytes u r =
-    bytes-append _ _ (bytes-append _ _ (bytes-append _ _ (bytes-append _ _ (r .sense-bytes) (r .read-bytes)) (r .written-bytes)) (r .movements-bytes))
+    bytes-append _ _ (bytes-append _ _ (bytes-append _ _ (bytes-append _ _ (r .sense .bytes) (r .read .bytes)) (r .written .bytes)) (r .movements .bytes))
     (bytes-cons _ _ (r .ready-byte) (bytes-cons _ _ (r .read-only-byte) bytes-nil))
 
 pub record-of : (l : List ℕ) → length l ≡ recordSize → AreBytes l → IsRecord (recordOf l)
 unfolding recordOf
-record-of l e b = record {
-  sense-length = length-part l 0 24 (omega (arith, e));
-  read-length = length-part l 24 3 (omega (arith, e));
-  written-length = length-part l 27 3 (omega (arith, e));
-  movements-length = length-part l 30 2 (omega (arith, e));
-  sense-bytes = bytes-part l 0 24 b;
-  read-bytes = bytes-part l 24 3 b;
-  written-bytes = bytes-part l 27 3 b;
-  movements-bytes = bytes-part l 30 2 b;
-  ready-byte = byte-at l 32 b;
-  read-only-byte = byte-at l 33 b;
-}
+record-of l e b =
+    let field : (at n : ℕ) → at + n ≤ recordSize → Sized n (part l at n) = λ at n h. record { long = length-part l at n (omega (arith, e, h)); bytes = bytes-part l at n b } in
+    record {
+      sense = field 0 24 (omega arith);
+      read = field 24 3 (omega arith);
+      written = field 27 3 (omega arith);
+      movements = field 30 2 (omega arith);
+      ready-byte = byte-at l 32 b;
+      read-only-byte = byte-at l 33 b;
+    }
 
 pub bytes-back : (l : List ℕ) → length l ≡ recordSize → recordBytes (recordOf l) ≡ l
 unfolding recordBytes recordOf part
@@ -58,13 +56,13 @@ record-back u r =
     let d : List ℕ = u .movements in
     let e : List ℕ = u .ready ∷ u .«read_only» ∷ [] in
     let all : List ℕ = a ++ b ++ c ++ d ++ e in
-    let two : length (a ++ b) ≡ 27 = simp (length-append, r .sense-length, r .read-length) in
-    let three : length (a ++ b ++ c) ≡ 30 = simp (length-append, r .sense-length, r .read-length, r .written-length) in
-    let four : length (a ++ b ++ c ++ d) ≡ 32 = simp (length-append, r .sense-length, r .read-length, r .written-length, r .movements-length) in
-    let sense : part all 0 24 ≡ a = simp append-assoc (part-between [] a (b ++ (c ++ (d ++ e))) 0 24 refl (r .sense-length)) in
-    let read : part all 24 3 ≡ b = simp append-assoc (part-between a b (c ++ (d ++ e)) 24 3 (r .sense-length) (r .read-length)) in
-    let written : part all 27 3 ≡ c = simp append-assoc (simp append-assoc at (part-between (a ++ b) c (d ++ e) 27 3 two (r .written-length))) in
-    let movements : part all 30 2 ≡ d = simp append-assoc (simp append-assoc at (part-between (a ++ b ++ c) d e 30 2 three (r .movements-length))) in
+    let two : length (a ++ b) ≡ 27 = simp (length-append, r .sense .long, r .read .long) in
+    let three : length (a ++ b ++ c) ≡ 30 = simp (length-append, r .sense .long, r .read .long, r .written .long) in
+    let four : length (a ++ b ++ c ++ d) ≡ 32 = simp (length-append, r .sense .long, r .read .long, r .written .long, r .movements .long) in
+    let sense : part all 0 24 ≡ a = simp append-assoc (part-between [] a (b ++ (c ++ (d ++ e))) 0 24 refl (r .sense .long)) in
+    let read : part all 24 3 ≡ b = simp append-assoc (part-between a b (c ++ (d ++ e)) 24 3 (r .sense .long) (r .read .long)) in
+    let written : part all 27 3 ≡ c = simp append-assoc (simp append-assoc at (part-between (a ++ b) c (d ++ e) 27 3 two (r .written .long))) in
+    let movements : part all 30 2 ≡ d = simp append-assoc (simp append-assoc at (part-between (a ++ b ++ c) d e 30 2 three (r .movements .long))) in
     let ready : getD all 32 0 ≡ u .ready = getD-at (a ++ b ++ c ++ d) (u .ready) _ 0 32 four in
     let read-only : getD all 33 0 ≡ u .«read_only» = ap (λ (n : ℕ). getD all (n + 1) 0) (sym four) ∙ getD-append-add (a ++ b ++ c ++ d) e 1 0 in
     λ i. record { sense = sense i; «blocks_read» = read i; «blocks_written» = written i; movements = movements i; ready = ready i; «read_only» = read-only i }

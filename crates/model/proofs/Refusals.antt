@@ -7,27 +7,23 @@
 -- Assumes nothing.
 use Prim.Native.Nat.{ℕ, _/_}
 use mathlib.Core.Path.{_≡_, refl, ap, _∙_}
-use mathlib.Core.Bool.{true, false}
 use mathlib.Core.List.{List}
 use lib.ListN.{length}
 use borrow.Author.Tests.{ne-eqb}
 use Rattle.model.specs.declared.ccw.Ccw.{Ccw}
 use Rattle.model.specs.declared.record.Record.{Record}
 use Rattle.model.specs.declared.kind.Kind.the-variants.{ProgramCheck}
-use Rattle.model.specs.declared.state.Before.the-variants.{Other}
 use Rattle.model.specs.declared.device.Device.{Device}
 use Rattle.model.specs.State.{State}
 use Rattle.numbers.specs.Choice.{pick}
 use Rattle.model.specs.Rules.{firstOf}
 use Rattle.model.specs.Lent.{ccwSize, fetched}
 use Rattle.model.specs.Causes.{callCauses, hostCauses, kindOf, verdict}
-use Rattle.model.specs.Sense.{senseOf}
 use Rattle.model.specs.Log.{withSense}
 use Rattle.model.specs.Commands.{Out, after, refused, refusal, step}
 use Rattle.model.specs.Chain.{called, callOf, start, system, run}
 use Rattle.model.specs.Host.{resultOf, hostCallOf}
 use Rattle.model.specs.Parameters.{locateLength}
-use Rattle.numbers.proofs.Choice.{pick-ind, pick-true}
 use Rattle.model.proofs.Leaving.{leaves-ind, leaves-any}
 use Rattle.model.proofs.Steps.{step-cause, step-refused}
 

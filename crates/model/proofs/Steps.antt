@@ -2,7 +2,8 @@
 --     step-accepted, step-refused   by the verdict
 --     Admitted                      what a command is known to have where the channel passed it on
 --     past-channel                  a verdict that the channel and the unit do not give is the command's own
---     own-.. , accepted-..          the table and the effect of each command
+--     own-as, accepted-as           the table and the effect of each command
+--     performed-as                  so of one that the channel and the unit passed on
 --     step-cases                    what holds of a refusal and of each accepted command holds of `step`
 --     step-cause                    the cause that a command ends with is the verdict of its table
 -- No contract cites this file.
@@ -46,6 +47,51 @@ one-of P k ks n e f g = either-cases P _ _ e (λ b. f (eqb-true n k b)) g
 pub none-of : (n : ℕ) → oneOf [] n ≡ true → ⊥
 unfolding oneOf
 none-of n e = false≢true e
+
+-- by the command: its own table, what it does, and both
+
+pub record OwnAs (dev : Device) (c : Ccw) (s : State) (main store : List ℕ) (own : List Rule) : Type 0 where
+  pub define-extent : c .command ≡ DEFINE-EXTENT → own ≡ defineExtentCauses dev (blockCount dev store) c s (fetched c main extentLength)
+  pub locate : c .command ≡ LOCATE → own ≡ locateCauses c s (fetched c main locateLength)
+  pub read : c .command ≡ READ → own ≡ transferCauses reads s
+  pub write : c .command ≡ WRITE → own ≡ transferCauses writes s
+  pub read-ipl : c .command ≡ READ-IPL → own ≡ readIplCauses s
+
+pub record AcceptedAs (dev : Device) (c : Ccw) (s : State) (main store : List ℕ) (o : Out) : Type 0 where
+  pub no-operation : c .command ≡ NO-OPERATION → o ≡ noOperation s main store
+  pub define-extent : c .command ≡ DEFINE-EXTENT → o ≡ defineExtent c s main store
+  pub locate : c .command ≡ LOCATE → o ≡ locate c s main store
+  pub read : c .command ≡ READ → o ≡ read dev c s main store
+  pub write : c .command ≡ WRITE → o ≡ write dev c s main store
+  pub read-ipl : c .command ≡ READ-IPL → o ≡ readIpl dev c s main store
+  pub sense : c .command ≡ SENSE → o ≡ sense c s main store
+  pub sense-type : c .command ≡ SENSE-TYPE → o ≡ senseType c s main store
+  pub read-log : c .command ≡ READ-LOG → o ≡ readLog c s main store
+
+pub record PerformedAs (dev : Device) (c : Ccw) (s : State) (main store : List ℕ) (o : Out) : Type 0 where
+  pub no-operation : c .command ≡ NO-OPERATION → o ≡ noOperation s main store
+  pub define-extent : c .command ≡ DEFINE-EXTENT
+      → o ≡ decided c s main store (firstOf (defineExtentCauses dev (blockCount dev store) c s (fetched c main extentLength))) (defineExtent c (cleared s) main store)
+  pub locate : c .command ≡ LOCATE → o ≡ decided c s main store (firstOf (locateCauses c s (fetched c main locateLength))) (locate c (cleared s) main store)
+  pub read : c .command ≡ READ → o ≡ decided c s main store (firstOf (transferCauses reads s)) (read dev c (cleared s) main store)
+  pub write : c .command ≡ WRITE → o ≡ decided c s main store (firstOf (transferCauses writes s)) (write dev c (cleared s) main store)
+  pub read-ipl : c .command ≡ READ-IPL → o ≡ decided c s main store (firstOf (readIplCauses s)) (readIpl dev c (cleared s) main store)
+  pub sense : c .command ≡ SENSE → o ≡ sense c s main store
+  pub sense-type : c .command ≡ SENSE-TYPE → o ≡ senseType c (cleared s) main store
+  pub read-log : c .command ≡ READ-LOG → o ≡ readLog c (cleared s) main store
+
+module _ (dev : Device) (c : Ccw) (s : State) (main store : List ℕ) where
+  own-as : OwnAs dev c s main store (ownCauses dev c s main store)
+  unfolding ownCauses pick
+  own-as = record { define-extent = λ e. rw e; locate = λ e. rw e; read = λ e. rw e; write = λ e. rw e; read-ipl = λ e. rw e }
+
+  pub accepted-as : AcceptedAs dev c s main store (accepted dev c s main store)
+  unfolding accepted pick
+  accepted-as = record { no-operation = λ e. rw e; define-extent = λ e. rw e; locate = λ e. rw e; read = λ e. rw e; write = λ e. rw e; read-ipl = λ e. rw e; sense = λ e. rw e; sense-type = λ e. rw e; read-log = λ e. rw e }
+
+  pub performed-as : PerformedAs dev c s main store (performed dev c s main store)
+  unfolding performed decided ownCauses accepted seen cleared after pick oneOf firstOf
+  performed-as = record { no-operation = λ e. rw e; define-extent = λ e. rw e; locate = λ e. rw e; read = λ e. rw e; write = λ e. rw e; read-ipl = λ e. rw e; sense = λ e. rw e; sense-type = λ e. rw e; read-log = λ e. rw e }
 
 module _ (dev : Device) (c : Ccw) (s : State) (main store : List ℕ) where
   pub step-accepted : verdict dev c s main store ≡ 0 → step dev c s main store ≡ accepted dev c (seen c s) main store
@@ -95,32 +141,6 @@ module _ (dev : Device) (c : Ccw) (s : State) (main store : List ℕ) where
         f .1,
       )
 
-  pub own-define : c .command ≡ DEFINE-EXTENT → ownCauses dev c s main store ≡ defineExtentCauses dev (blockCount dev store) c s (fetched c main extentLength)
-  unfolding ownCauses pick
-  own-define e = rw e
-
-  pub own-locate : c .command ≡ LOCATE → ownCauses dev c s main store ≡ locateCauses c s (fetched c main locateLength)
-  unfolding ownCauses pick
-  own-locate e = rw e
-
-  pub own-read-ipl : c .command ≡ READ-IPL → ownCauses dev c s main store ≡ readIplCauses s
-  unfolding ownCauses pick
-  own-read-ipl e = rw e
-
-  pub own-read : c .command ≡ READ → ownCauses dev c s main store ≡ transferCauses reads s
-  unfolding ownCauses pick
-  own-read e = rw e
-
-  pub own-write : c .command ≡ WRITE → ownCauses dev c s main store ≡ transferCauses writes s
-  unfolding ownCauses pick
-  own-write e = rw e
-
-  pub own-none : oneOf (NO-OPERATION ∷ SENSE ∷ SENSE-TYPE ∷ READ-LOG ∷ []) (c .command) ≡ true → ownCauses dev c s main store ≡ []
-  unfolding ownCauses pick
-  own-none e =
-      let P : Type 0 = ownCauses dev c s main store ≡ [] in
-      one-of P _ _ _ e (λ x. rw x refl) (λ e. one-of P _ _ _ e (λ x. rw x refl) (λ e. one-of P _ _ _ e (λ x. rw x refl) (λ e. one-of P _ _ _ e (λ x. rw x refl) (λ e. absurd (none-of _ e)))))
-
   -- neither the channel nor the unit itself refuses the command: its own table decides
   pub step-performed : firstOf (channelCauses c main ++ unitCauses c s) ≡ 0 → step dev c s main store ≡ performed dev c s main store
   unfolding step performed verdict causesOf channelCauses unitCauses
@@ -128,45 +148,6 @@ module _ (dev : Device) (c : Ccw) (s : State) (main store : List ℕ) where
       let v : verdict dev c s main store ≡ firstOf (ownCauses dev c s main store) =
       first-append (channelCauses c main ++ unitCauses c s) (ownCauses dev c s main store) refl ∙ rw e (pick-true _ _ _ refl) in
       ap (λ (w : ℕ). decided c s main store w (accepted dev c (seen c s) main store)) v
-
-  -- so does that of each command, and what it does
-
-  pub performed-define : c .command ≡ DEFINE-EXTENT
-      → performed dev c s main store ≡ decided c s main store (firstOf (defineExtentCauses dev (blockCount dev store) c s (fetched c main extentLength))) (defineExtent c (cleared s) main store)
-  unfolding performed ownCauses accepted seen cleared pick oneOf
-  performed-define e = rw e
-
-  pub performed-locate : c .command ≡ LOCATE → performed dev c s main store ≡ decided c s main store (firstOf (locateCauses c s (fetched c main locateLength))) (locate c (cleared s) main store)
-  unfolding performed ownCauses accepted seen cleared pick oneOf
-  performed-locate e = rw e
-
-  pub performed-read : c .command ≡ READ → performed dev c s main store ≡ decided c s main store (firstOf (transferCauses reads s)) (read dev c (cleared s) main store)
-  unfolding performed ownCauses accepted seen cleared pick oneOf
-  performed-read e = rw e
-
-  pub performed-write : c .command ≡ WRITE → performed dev c s main store ≡ decided c s main store (firstOf (transferCauses writes s)) (write dev c (cleared s) main store)
-  unfolding performed ownCauses accepted seen cleared pick oneOf
-  performed-write e = rw e
-
-  pub performed-read-ipl : c .command ≡ READ-IPL → performed dev c s main store ≡ decided c s main store (firstOf (readIplCauses s)) (readIpl dev c (cleared s) main store)
-  unfolding performed ownCauses accepted seen cleared pick oneOf
-  performed-read-ipl e = rw e
-
-  pub performed-sense : c .command ≡ SENSE → performed dev c s main store ≡ sense c s main store
-  unfolding performed decided ownCauses accepted seen after pick oneOf firstOf
-  performed-sense e = rw e
-
-  pub performed-sense-type : c .command ≡ SENSE-TYPE → performed dev c s main store ≡ senseType c (cleared s) main store
-  unfolding performed decided ownCauses accepted seen cleared pick oneOf firstOf
-  performed-sense-type e = rw e
-
-  pub performed-read-log : c .command ≡ READ-LOG → performed dev c s main store ≡ readLog c (cleared s) main store
-  unfolding performed decided ownCauses accepted seen cleared pick oneOf firstOf
-  performed-read-log e = rw e
-
-  pub performed-no-operation : c .command ≡ NO-OPERATION → performed dev c s main store ≡ noOperation s main store
-  unfolding performed decided ownCauses accepted seen after pick oneOf firstOf
-  performed-no-operation e = rw e
 
   -- what holds of each command's own table, and of an empty one, holds of the one that the command has
   pub own-cases : (P : List Rule → Type 0)
@@ -183,44 +164,6 @@ module _ (dev : Device) (c : Ccw) (s : State) (main store : List ℕ) where
       pick-ind P _ _ _ (λ b. i (eqb-true _ _ b)) (λ _.
       pick-ind P _ _ _ (λ b. r (eqb-true _ _ b)) (λ _.
       pick-ind P _ _ _ (λ b. w (eqb-true _ _ b)) (λ _. n)))))
-
-  -- what an accepted command does, by the command
-
-  pub accepted-no-operation : c .command ≡ NO-OPERATION → accepted dev c s main store ≡ noOperation s main store
-  unfolding accepted pick
-  accepted-no-operation e = rw e
-
-  pub accepted-define : c .command ≡ DEFINE-EXTENT → accepted dev c s main store ≡ defineExtent c s main store
-  unfolding accepted pick
-  accepted-define e = rw e
-
-  pub accepted-locate : c .command ≡ LOCATE → accepted dev c s main store ≡ locate c s main store
-  unfolding accepted pick
-  accepted-locate e = rw e
-
-  pub accepted-read : c .command ≡ READ → accepted dev c s main store ≡ read dev c s main store
-  unfolding accepted pick
-  accepted-read e = rw e
-
-  pub accepted-write : c .command ≡ WRITE → accepted dev c s main store ≡ write dev c s main store
-  unfolding accepted pick
-  accepted-write e = rw e
-
-  pub accepted-read-ipl : c .command ≡ READ-IPL → accepted dev c s main store ≡ readIpl dev c s main store
-  unfolding accepted pick
-  accepted-read-ipl e = rw e
-
-  pub accepted-sense : c .command ≡ SENSE → accepted dev c s main store ≡ sense c s main store
-  unfolding accepted pick
-  accepted-sense e = rw e
-
-  pub accepted-sense-type : c .command ≡ SENSE-TYPE → accepted dev c s main store ≡ senseType c s main store
-  unfolding accepted pick
-  accepted-sense-type e = rw e
-
-  pub accepted-read-log : c .command ≡ READ-LOG → accepted dev c s main store ≡ readLog c s main store
-  unfolding accepted pick
-  accepted-read-log e = rw e
 
   -- a verdict of the command's own table is one of the table's that the command has
   own-failed : (rs : List Rule) → ownCauses dev c s main store ≡ rs → absent 0 rs ≡ true → firstOf (ownCauses dev c s main store) ≡ 0 → Failed rs
@@ -247,15 +190,15 @@ accepted-cases dev c s main store P k e =
     let t : State = seen c s in
     let Q : Type 0 = P (accepted dev c t main store) in
     let own = own-failed dev c s main store in
-    one-of Q _ _ _ (a .listed) (λ x. rw (accepted-no-operation dev c t main store x) (k .no-operation x)) (λ l.
-    one-of Q _ _ _ l (λ x. rw (accepted-define dev c t main store x) (k .define-extent a x (own _ (own-define dev c s main store x) refl (p .1)))) (λ l.
-    one-of Q _ _ _ l (λ x. rw (accepted-locate dev c t main store x) (k .locate a x (own _ (own-locate dev c s main store x) refl (p .1)))) (λ l.
-    one-of Q _ _ _ l (λ x. rw (accepted-read dev c t main store x) (k .read a x (own _ (own-read dev c s main store x) refl (p .1)))) (λ l.
-    one-of Q _ _ _ l (λ x. rw (accepted-write dev c t main store x) (k .write a x (own _ (own-write dev c s main store x) refl (p .1)))) (λ l.
-    one-of Q _ _ _ l (λ x. rw (accepted-read-ipl dev c t main store x) (k .read-ipl a x (own _ (own-read-ipl dev c s main store x) refl (p .1)))) (λ l.
-    one-of Q _ _ _ l (λ x. rw (accepted-sense dev c t main store x) (k .sense a x)) (λ l.
-    one-of Q _ _ _ l (λ x. rw (accepted-sense-type dev c t main store x) (k .sense-type a x)) (λ l.
-    one-of Q _ _ _ l (λ x. rw (accepted-read-log dev c t main store x) (k .read-log a x)) (λ l. absurd (none-of _ l))))))))))
+    one-of Q _ _ _ (a .listed) (λ x. rw (accepted-as dev c t main store .no-operation x) (k .no-operation x)) (λ l.
+    one-of Q _ _ _ l (λ x. rw (accepted-as dev c t main store .define-extent x) (k .define-extent a x (own _ (own-as dev c s main store .define-extent x) refl (p .1)))) (λ l.
+    one-of Q _ _ _ l (λ x. rw (accepted-as dev c t main store .locate x) (k .locate a x (own _ (own-as dev c s main store .locate x) refl (p .1)))) (λ l.
+    one-of Q _ _ _ l (λ x. rw (accepted-as dev c t main store .read x) (k .read a x (own _ (own-as dev c s main store .read x) refl (p .1)))) (λ l.
+    one-of Q _ _ _ l (λ x. rw (accepted-as dev c t main store .write x) (k .write a x (own _ (own-as dev c s main store .write x) refl (p .1)))) (λ l.
+    one-of Q _ _ _ l (λ x. rw (accepted-as dev c t main store .read-ipl x) (k .read-ipl a x (own _ (own-as dev c s main store .read-ipl x) refl (p .1)))) (λ l.
+    one-of Q _ _ _ l (λ x. rw (accepted-as dev c t main store .sense x) (k .sense a x)) (λ l.
+    one-of Q _ _ _ l (λ x. rw (accepted-as dev c t main store .sense-type x) (k .sense-type a x)) (λ l.
+    one-of Q _ _ _ l (λ x. rw (accepted-as dev c t main store .read-log x) (k .read-log a x)) (λ l. absurd (none-of _ l))))))))))
 
 pub step-cases : (dev : Device) (c : Ccw) (s : State) (main store : List ℕ) (P : Out → Type 0) → Cases dev c s main store P → P (step dev c s main store)
 unfolding step decided

@@ -170,7 +170,7 @@ unfoldable pub cleared : State → State
 cleared s = after s (withSense (s .unit) (zeros 24)) (s .before)
 
 unfoldable pub seen : Ccw → State → State
-seen c s = after s (pick (oneOf (NO-OPERATION ∷ SENSE ∷ []) (c .command)) (s .unit) (withSense (s .unit) (zeros 24))) (s .before)
+seen c s = after s (pick (oneOf (NO-OPERATION ∷ SENSE ∷ []) (c .command)) (s .unit) (cleared s .unit)) (s .before)
 
 -- accepted where no cause was given, refused by the cause where one was
 unfoldable pub decided : Ccw → State → List ℕ → List ℕ → ℕ → Out → Out

@@ -7,7 +7,7 @@ use mathlib.Core.List.{List}
 use lib.ListN.{length, take}
 use lib.Seq.{take-at}
 use Rattle.model.specs.declared.record.Record.{Record}
-use Rattle.model.specs.Chain.{Called, call, classA}
+use Rattle.model.specs.Chain.{call, classA}
 use Rattle.model.specs.Answer.{answerSize}
 use Rattle.model.specs.Host.{resultOf}
 use Rattle.model.proofs.Endings.{call-reached}

@@ -9,14 +9,14 @@ use borrow.Author.Tests.{eqb-true}
 use Rattle.numbers.specs.Bytes.{AreBytes}
 use Rattle.numbers.proofs.Bytes.{bytes-nil, bytes-cons, bytes-append}
 use Rattle.slices.specs.Parts.{zeros}
-use Rattle.slices.proofs.Laws.{length-zeros, bytes-zeros}
+use Rattle.slices.proofs.Laws.{bytes-zeros}
 use Rattle.model.specs.declared.record.Record.{Record}
 use Rattle.model.specs.Rules.{firstOf}
 use Rattle.model.specs.Lent.{newRecord}
 use Rattle.model.specs.Causes.{callCauses}
-use Rattle.model.specs.Chain.{Called, call, callOf, classA}
+use Rattle.model.specs.Chain.{call, callOf, classA}
 use Rattle.numbers.proofs.Choice.{pick-ind}
-use Rattle.model.proofs.Fields.{IsRecord}
+use Rattle.model.proofs.Fields.{sized-zeros, IsRecord}
 use Rattle.model.proofs.Kept.{call-bytes}
 use Rattle.model.proofs.Lengths.{call-lengths}
 use Rattle.in_place.proofs.Reached.{reached-few}
@@ -39,18 +39,8 @@ device-bytes (suc n) h = bytes-append (device n) _ (device-bytes n (omega arith)
 
 new-fields : (ready readonly : ℕ) → ready < 256 → readonly < 256 → IsRecord (newRecord ready readonly)
 unfolding newRecord
-new-fields ready readonly h k = record {
-  sense-length = length-zeros 24;
-  read-length = length-zeros 3;
-  written-length = length-zeros 3;
-  movements-length = length-zeros 2;
-  sense-bytes = bytes-zeros 24;
-  read-bytes = bytes-zeros 3;
-  written-bytes = bytes-zeros 3;
-  movements-bytes = bytes-zeros 2;
-  ready-byte = h;
-  read-only-byte = k;
-}
+new-fields ready readonly h k =
+    record { sense = sized-zeros 24; read = sized-zeros 3; written = sized-zeros 3; movements = sized-zeros 2; ready-byte = h; read-only-byte = k }
 
 small-cause : (chain main store : List ℕ) (u : Record) (answers : List ℕ) → call chain main store u answers .cause < sixDigits
 unfolding callOf callCauses firstOf
@@ -74,7 +64,7 @@ exercised-length input e =
     let fields = new-fields (x .settings .ready) (x .settings .readonly) (settings-few input .0) (settings-few input .1) in
     let bytes = call-bytes classA (x .chain) (x .storage) store u answers (chain-bytes input) (storage-bytes input) (device-bytes (x .settings .blocks) (omega (arith, few-blocks input e))) fields (bytes-zeros _) in
     let sizes = call-lengths classA (x .chain) (x .storage) store u answers in
-    printout-within _ _ _ _ _ (small-cause (x .chain) (x .storage) store u answers) (reached-few (x .chain) (x .storage) store u answers _ refl) (bytes .answers-bytes) (omega (arith, sizes .main-length, storage-few input e)) (bytes .unit-fields .sense-length)
+    printout-within _ _ _ _ _ (small-cause (x .chain) (x .storage) store u answers) (reached-few (x .chain) (x .storage) store u answers _ refl) (bytes .answers-bytes) (omega (arith, sizes .main-length, storage-few input e)) (bytes .unit-fields .sense .long)
 
 pub printout-fits : (input : List ℕ) → length (exercise input) ≤ mostPrinted
 unfolding exercise

@@ -20,10 +20,10 @@ use Rattle.model.specs.Causes.{commands, channelCauses, unitCauses}
 use Rattle.model.specs.Log.{withSense, withCounts}
 use Rattle.model.specs.Commands.{out, ended, noOperation, performed, step}
 use Rattle.model.proofs.Verdicts.{first-here, first-later, first-none, never-given}
-use Rattle.model.proofs.Steps.{early-channel, early-unit, step-early, step-performed, performed-no-operation}
+use Rattle.model.proofs.Steps.{early-channel, early-unit, step-early, step-performed, performed-as}
 use Rattle.log.specs.Counts.{counted}
 use Rattle.unit_state.specs.declared.Running.{Running}
-use Rattle.unit_state.specs.Standing.{passedOn, unitOf, stateOf}
+use Rattle.unit_state.specs.Standing.{passedOn, unitOf, stateOf, Sound}
 use Rattle.unit_state.proofs.Units.{passed-on}
 use Rattle.endings.specs.declared.Ended.{Ended}
 use Rattle.endings.specs.Ending.{endOf, shown, Ends}
@@ -35,16 +35,17 @@ passed-out : (u : Record) (s : Running) (main store : List ℕ) → noOperation 
 unfolding noOperation stateOf
 passed-out u s main store = rw (passed-on u s) refl
 
-module _ (dev : Device) (u : Record) (c : Ccw) (s : Running) (main store : List ℕ) (r : Ended) where
+-- the state is sound: that names the device and the store
+module _ {dev : Device} {u : Record} {c : Ccw} {s : Running} (main : List ℕ) {store : List ℕ} {r : Ended} (sound : Sound dev s store) where
   -- refused before its own table is read, by a cause that shows no parameters
   stopped : (w : ℕ) → firstOf (channelCauses c main ++ unitCauses c (stateOf u s)) ≡ w → (w ≡ 0 → ⊥) → (w ≡ 39 → ⊥) → r ≡ endOf c s 0 0 0 w (zeros 8)
       → Ends u c s r main store (step dev c (stateOf u s) main store)
   unfolding shown
   stopped w e n m f = rw (step-early dev c (stateOf u s) main store w e n) (refused-ends u c s main store w (zeros 8) r f (sym (pick-false _ _ _ (ne-eqb _ _ m))) n)
 
-  pub by-channel : (w : ℕ) → w ≡ firstOf (channelCauses c main) → (w ≡ 0 → ⊥) → r ≡ endOf c s 0 0 0 w (zeros 8) → Ends u c s r main store (step dev c (stateOf u s) main store)
+  pub by-channel : {w : ℕ} → w ≡ firstOf (channelCauses c main) → (w ≡ 0 → ⊥) → r ≡ endOf c s 0 0 0 w (zeros 8) → Ends u c s r main store (step dev c (stateOf u s) main store)
   unfolding channelCauses
-  by-channel w e n = stopped w (early-channel dev c (stateOf u s) main store w (sym e) n) n (λ m. never-given 39 (channelCauses c main) refl (λ z. omega arith) (sym e ∙ m))
+  by-channel {w} e n = stopped w (early-channel dev c (stateOf u s) main store w (sym e) n) n (λ m. never-given 39 (channelCauses c main) refl (λ z. omega arith) (sym e ∙ m))
 
   pub by-ready : firstOf (channelCauses c main) ≡ 0 → u .ready =? 0 && not (oneOf (SENSE ∷ SENSE-TYPE ∷ []) (c .command)) ≡ true → r ≡ endOf c s 0 0 0 44 (zeros 8)
       → Ends u c s r main store (step dev c (stateOf u s) main store)
@@ -56,14 +57,14 @@ module _ (dev : Device) (u : Record) (c : Ccw) (s : Running) (main store : List 
     unfolding unitCauses stateOf unitOf counted withCounts withSense
     by-list b = stopped 43 (early-unit dev c (stateOf u s) main store 43 (seen .channel) (first-later _ _ (seen .ready) ∙ first-here _ _ (ap not b))) (λ z. omega arith) (λ z. omega arith)
 
-    pub by-own : (k : ℕ) (main′ store′ : List ℕ) → c .command ≡ k → oneOf commands k ≡ true → Ends u c s r main′ store′ (performed dev c (stateOf u s) main store)
+    pub by-own : {k : ℕ} {main′ store′ : List ℕ} → c .command ≡ k → oneOf commands k ≡ true → Ends u c s r main′ store′ (performed dev c (stateOf u s) main store)
         → Ends u c s r main′ store′ (step dev c (stateOf u s) main store)
     unfolding unitCauses stateOf unitOf counted withCounts withSense
-    by-own k main′ store′ e l h =
+    by-own e l h =
         rw (step-performed dev c (stateOf u s) main store (early-unit dev c (stateOf u s) main store 0 (seen .channel) (first-later _ _ (seen .ready) ∙ first-later _ _ (rw (e, l) refl) ∙ first-none))) h
 
     pub no-operation-ends : c .command ≡ NO-OPERATION → r ≡ endOf c (passedOn s) 0 0 0 0 (zeros 8) → Ends u c s r main store (step dev c (stateOf u s) main store)
     unfolding oneOf
     no-operation-ends e f =
-        by-own NO-OPERATION main store e refl
-        (rw (performed-no-operation dev c (stateOf u s) main store e, passed-out u s main store) (accepted-ends u c s main store (passedOn s) 0 0 0 r main store _ f (rw e (sym (and-true (s .kept)))) refl refl refl))
+        by-own e refl
+        (rw (performed-as dev c (stateOf u s) main store .no-operation e, passed-out u s main store) (accepted-ends u c s main store (passedOn s) 0 0 0 r main store _ f (rw e (sym (and-true (s .kept)))) refl refl refl))

@@ -6,14 +6,10 @@ use Rattle.model.specs.Commands.{begun}
 use Rattle.blocks.proofs.begun.Statement.{statement}
 use Rattle.blocks.proofs.begun.Tie as tie
 
-returns : tie.Need-returns
-unfolding begun
-returns c = refl
-
 pub begun-spec : {M : Type 1} → statement M
-begun-spec = tie.close
-    (tie.spec
+unfolding begun
+begun-spec = tie.close (tie.spec
     (search needs)  -- sub-result
     (search needs)  -- add-result
     (search needs)  -- div-result
-    returns)
+    (λ c. refl))  -- returns

@@ -1,5 +1,4 @@
 -- `fill` meets its contract: what is fetched, and the rest cleared. Assumes nothing.
-use native.Mathlib.Omega.{arith}
 use borrow.Author.Needs.{needs}
 use Rattle.blocks.proofs.Turns.{filled}
 use Rattle.blocks.proofs.fill.Statement.{statement}
@@ -13,9 +12,7 @@ returns c =
     filled (a .c) (a .main .now) (a .block .now) _ _ (a .from) (a .n) (fetched .fetch .ensures) (c .before .before .clear .ensures) (first .pre .2) (first .pre .0)
 
 pub fill-spec : {M : Type 1} → statement M
-fill-spec =
-    tie.close
-    (tie.spec
+fill-spec = tie.close (tie.spec
     (search needs)  -- fetch-requires
     (search needs)  -- sub-clear
     (search needs)  -- part-clear-start

@@ -6,12 +6,8 @@ use borrow.Author.Needs.{needs}
 use Rattle.blocks.proofs.place.Statement.{statement}
 use Rattle.blocks.proofs.place.Tie as tie
 
-returns : tie.Need-returns
-unfolding blockStart
-returns c = (refl, omega arith)
-
 pub place-spec : {M : Type 1} → statement M
-place-spec = tie.close
-    (tie.spec
+unfolding blockStart
+place-spec = tie.close (tie.spec
     (search needs)  -- mul-result
-    returns)
+    (λ c. (refl, omega arith)))  -- returns

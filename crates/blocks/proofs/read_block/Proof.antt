@@ -10,9 +10,7 @@ unfolding blockAt
 returns c = rw (part-lent, c .before .before .before .before .before .before .place .ensures .0) at (c .before .before .deliver .ensures)
 
 pub read-block-spec : {M : Type 1} → statement M
-read-block-spec =
-    tie.close
-    (tie.spec
+read-block-spec = tie.close (tie.spec
     (search needs)  -- place-requires
     (search needs)  -- add-end
     (search needs)  -- sub-deliver

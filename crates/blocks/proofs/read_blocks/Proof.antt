@@ -3,7 +3,7 @@
 use Prim.Native.Nat.{ℕ, _+_, _-_, _*_, _≤_, _<_, min}
 use mathlib.Core.Path.{_≡_, refl, sym, _∙_}
 use lib.ListN.{length, take}
-use native.Mathlib.Nat.{zero-mul, zero-min, mul-le-mul-right}
+use native.Mathlib.Nat.{zero-mul, zero-min}
 use native.Mathlib.Omega.{arith}
 use borrow.Author.Needs.{needs}
 use Rattle.model.specs.Lent.{delivered, blocksFrom}
@@ -19,9 +19,6 @@ Inv-loop d store block blocks c main₀ n i₀ from₀ main i from =
 abbrev μ-loop : tie.MeasureT-loop
 μ-loop d store block blocks c main₀ n i₀ from₀ main i from = n - from
 
-loop-holds : tie.Need-loop-holds Inv-loop μ-loop
-loop-holds c = (rw (zero-mul, zero-min) refl, refl, sym (delivered-none _ _))
-
 -- block i is one of them, and lies in the store
 room : (c : tie.In-loop Inv-loop μ-loop) → let a = c .before .before .before .before .args in let b : ℕ = a .block + c .before .loop .i in
     ((b + 1) * a .d .block ≤ length (a .store .now)) × (b < length (a .store .now))
@@ -31,9 +28,6 @@ room c =
     turn-room (a .d .block) (a .block) (a .blocks) _ _ (first .pre .0)
     (turn-within (a .d .block) (a .n) _ _ (a .blocks) (c .before .loop .inv .0) (c .loop-test .taken) (first .pre .3)) (first .pre .2)
 
-add-read-block : tie.Need-add-read-block Inv-loop μ-loop
-add-read-block c = omega (arith, room (c .before) .1)
-
 read-block-requires : tie.Need-read-block-requires Inv-loop μ-loop
 read-block-requires c κs =
     let turn = c .before .before in
@@ -41,9 +35,6 @@ read-block-requires c κs =
     let k = c .before .least .ensures in
     let long = turn .before .loop .inv .1 in
     (room turn .0, omega (arith, k), first .pre .1, omega (arith, k, long, first .pre .4, turn .loop-test .taken))
-
-add-i : tie.Need-add-i Inv-loop μ-loop
-add-i c = omega (arith, room (c .before .before .before .before .before) .1)
 
 loop-again : tie.Need-loop-again Inv-loop μ-loop
 loop-again c =
@@ -64,17 +55,15 @@ returns c =
     rw done at (l .inv .2)
 
 pub read-blocks-spec : {M : Type 1} → statement M
-read-blocks-spec =
-    tie.close
-    (tie.spec
+read-blocks-spec = tie.close (tie.spec
     Inv-loop
     μ-loop
-    loop-holds
+    (λ c. (rw (zero-mul, zero-min) refl, refl, sym (delivered-none _ _)))  -- loop-holds
     (search needs)  -- sub-least
     (search needs)  -- least-requires
-    add-read-block
+    (λ c. omega (arith, room (c .before) .1))  -- add-read-block
     read-block-requires
-    add-i
+    (λ c. omega (arith, room (c .before .before .before .before .before) .1))  -- add-i
     (search needs)  -- add-from
     (search needs)  -- loop-less
     loop-again

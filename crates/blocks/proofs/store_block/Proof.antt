@@ -11,9 +11,7 @@ returns c =
     rw (← (placed .0)) (put-lent-filled _ _ _ _ _ (c .before .before .fill .ensures) (omega arith))
 
 pub store-block-spec : {M : Type 1} → statement M
-store-block-spec =
-    tie.close
-    (tie.spec
+store-block-spec = tie.close (tie.spec
     (search needs)  -- place-requires
     (search needs)  -- add-end
     (search needs)  -- sub-fill

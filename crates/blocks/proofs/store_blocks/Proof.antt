@@ -17,10 +17,6 @@ Inv-loop d store₀ block blocks c main n from₀ i₀ store from i =
 abbrev μ-loop : tie.MeasureT-loop
 μ-loop d store₀ block blocks c main n from₀ i₀ store from i = blocks - i
 
-loop-holds : tie.Need-loop-holds Inv-loop μ-loop
-unfolding blocksInto
-loop-holds c = (omega arith, rw (zero-mul, zero-min) refl, refl, refl)
-
 -- block i lies in the store
 room : (c : tie.In-loop Inv-loop μ-loop) → let a = c .before .before .before .before .args in let b : ℕ = a .block + c .before .loop .i in
     ((b + 1) * a .d .block ≤ length (a .store .now)) × (b < length (a .store .now))
@@ -28,12 +24,6 @@ room c =
     let first = c .before .before .before .before in
     let a = first .args in
     turn-room (a .d .block) (a .block) (a .blocks) _ _ (first .pre .0) (c .loop-test .taken) (first .pre .2)
-
-sub-least : tie.Need-sub-least Inv-loop μ-loop
-sub-least c = omega (arith, c .before .loop .inv .1)
-
-add-store-block : tie.Need-add-store-block Inv-loop μ-loop
-add-store-block c = omega (arith, room (c .before .before) .1)
 
 store-block-requires : tie.Need-store-block-requires Inv-loop μ-loop
 store-block-requires c κs =
@@ -68,15 +58,14 @@ returns c =
     rw done at (l .inv .3)
 
 pub store-blocks-spec : {M : Type 1} → statement M
-store-blocks-spec =
-    tie.close
-    (tie.spec
+unfolding blocksInto
+store-blocks-spec = tie.close (tie.spec
     Inv-loop
     μ-loop
-    loop-holds
-    sub-least
+    (λ c. (omega arith, rw (zero-mul, zero-min) refl, refl, refl))  -- loop-holds
+    (λ c. omega (arith, c .before .loop .inv .1))  -- sub-least
     (search needs)  -- least-requires
-    add-store-block
+    (λ c. omega (arith, room (c .before .before) .1))  -- add-store-block
     store-block-requires
     add-from
     (search needs)  -- add-i

@@ -20,9 +20,7 @@ returns-2 c =
     rw (c .before .extent-set .ensures, c .before .before .extent-in .ensures) at (c .accept .ensures) ∙ sym (pick-true _ _ _ (eq-eqb _ _ (rw told at (c .before .before .before .if1 .left))))
 
 pub define-by-spec : {M : Type 1} → statement M
-define-by-spec =
-    tie.close
-    (tie.spec
+define-by-spec = tie.close (tie.spec
     (search needs)  -- define-parameters-requires
     (search needs)  -- number-requires
     (search needs)  -- refuse-requires

@@ -1,14 +1,11 @@
 -- `define_extent` meets its contract. 20 and 21 are lines of its table; past them the sixteen bytes are there, and decide. Assumes nothing.
-use mathlib.Core.Path.{refl, sym, ap, _∙_}
-use Prim.Native.Nat.{ℕ}
-use mathlib.Core.List.{List}
-use native.Mathlib.Omega.{arith}
+use mathlib.Core.Path.{refl, _∙_}
 use borrow.Author.Needs.{needs}
 use borrow.Author.Tests.{lt-ltb, le-ltb}
 use Rattle.slices.specs.Parts.{zeros}
 use Rattle.model.specs.Causes.{defineExtentCauses}
 use Rattle.model.proofs.Verdicts.{first-here, first-later}
-use Rattle.model.proofs.Steps.{performed-define}
+use Rattle.model.proofs.Steps.{performed-as}
 use Rattle.unit_state.specs.Standing.{stateOf}
 use Rattle.endings.proofs.Ends.{refused-by}
 use Rattle.command_extent.proofs.Defining.{define-ends}
@@ -20,7 +17,7 @@ unfolding defineExtentCauses stateOf
 returns c =
     let first = c .before .before .before .before .before in
     let a = first .args in
-    λ u. refused-by u (a .c) (a .s) (a .main .now) (a .store .now) _ _ _ 20 _ (performed-define (a .d) (a .c) _ (a .main .now) (a .store .now) (first .pre .2))
+    λ u. refused-by u (a .c) (a .s) (a .main .now) (a .store .now) _ _ _ 20 _ (performed-as (a .d) (a .c) _ (a .main .now) (a .store .now) .define-extent (first .pre .2))
     (c .refuse .ensures) (first-here _ _ (lt-ltb _ _ (c .before .if1 .taken))) refl refl
 
 returns-2 : tie.Need-returns-2
@@ -28,7 +25,7 @@ unfolding defineExtentCauses stateOf
 returns-2 c =
     let first = c .before .before .before .before .before .before in
     let a = first .args in
-    λ u. refused-by u (a .c) (a .s) (a .main .now) (a .store .now) _ _ _ 21 _ (performed-define (a .d) (a .c) _ (a .main .now) (a .store .now) (first .pre .2))
+    λ u. refused-by u (a .c) (a .s) (a .main .now) (a .store .now) _ _ _ 21 _ (performed-as (a .d) (a .c) _ (a .main .now) (a .store .now) .define-extent (first .pre .2))
     (c .refuse2 .ensures) (first-later _ _ (le-ltb _ _ (c .before .before .if1 .left)) ∙ first-here _ _ (c .before .if2 .taken)) refl refl
 
 returns-3 : tie.Need-returns-3
@@ -40,9 +37,7 @@ returns-3 c =
     λ u. define-ends u (a .d) (a .c) (a .s) (a .main .now) (a .store .now) _ _ _ (c .define-by .ensures) (c .before .before .block-count .ensures) (c .before .before .before .before .fetch .ensures) (first .pre .1) (first .pre .2) (at .before .if1 .left) (at .if2 .left)
 
 pub define-extent-spec : {M : Type 1} → statement M
-define-extent-spec =
-    tie.close
-    (tie.spec
+define-extent-spec = tie.close (tie.spec
     (search needs)  -- refuse-requires
     returns
     (search needs)  -- refuse-requires-2

@@ -44,18 +44,6 @@ past-order c =
     let e = c .before .before .before .before .before .before .before .before .before .before .before .before .extent-in .ensures in
     past-size (c .before .before) ∙ first-later _ _ (rw (← e) (le-ltb _ _ (c .if4 .left)))
 
-returns : tie.Need-returns
-unfolding extentCauses extentIn reservedIn
-returns c = sym (first-here _ _ (sym (c .before .mask-wrong .ensures) ∙ c .if1 .taken))
-
-returns-2 : tie.Need-returns-2
-unfolding extentCauses extentIn
-returns-2 c = sym (past-mask (c .before .before .before) ∙ first-here _ _ (sym (c .before .maintenance .ensures) ∙ c .if2 .taken))
-
-returns-3 : tie.Need-returns-3
-unfolding extentCauses
-returns-3 c = sym (past-maintenance (c .before .before .before) ∙ first-here _ _ (size-tested (c .before) ∙ c .if3 .taken))
-
 returns-4 : tie.Need-returns-4
 unfolding extentCauses
 returns-4 c =
@@ -75,20 +63,19 @@ returns-6 c =
     sym (past-order (c .before .before) ∙ first-later _ _ (rw (← e) (sym (c .before .past-device .ensures) ∙ c .if5 .left)) ∙ first-none)
 
 pub define-parameters-spec : {M : Type 1} → statement M
-define-parameters-spec =
-    tie.close
-    (tie.spec
+unfolding extentCauses extentIn reservedIn
+define-parameters-spec = tie.close (tie.spec
     (λ c κs. c .before .pre)  -- extent-in-requires
     (λ c. sixteen (c .before .before .before .pre) tt)  -- shared-slice-read-mask-wrong
     (λ c. sixteen (c .before .before .before .before .pre) tt)  -- shared-slice-read-mask-wrong-2
     (λ c κs. tt)  -- mask-wrong-requires
-    returns
+    (λ c. sym (first-here _ _ (sym (c .before .mask-wrong .ensures) ∙ c .if1 .taken)))  -- returns
     (λ c. sixteen (c .before .before .before .before .before .before .before .pre) tt)  -- shared-slice-read-maintenance
     (λ c κs. tt)  -- maintenance-requires
-    returns-2
+    (λ c. sym (past-mask (c .before .before .before) ∙ first-here _ _ (sym (c .before .maintenance .ensures) ∙ c .if2 .taken)))  -- returns-2
     (λ c κs. sixteen (c .before .before .before .before .before .before .before .before .before .pre) tt)  -- be2-requires
     (λ c κs. tt)  -- size-wrong-requires
-    returns-3
+    (λ c. sym (past-maintenance (c .before .before .before) ∙ first-here _ _ (size-tested (c .before) ∙ c .if3 .taken)))  -- returns-3
     returns-4
     (λ c κs. c .if4 .left)  -- past-device-requires
     returns-5

@@ -3,11 +3,7 @@ use Rattle.command_extent.proofs.Tests.{not-below}
 use Rattle.command_extent.proofs.past_device.Statement.{statement}
 use Rattle.command_extent.proofs.past_device.Tie as tie
 
-returns : tie.Need-returns
-returns c = simp (not-below, ← (c .address .ensures))
-
 pub past-device-spec : {M : Type 1} → statement M
-past-device-spec = tie.close
-    (tie.spec
+past-device-spec = tie.close (tie.spec
     (λ c κs. c .before .pre)  -- address-requires
-    returns)
+    (λ c. simp (not-below, ← (c .address .ensures))))  -- returns

@@ -1,13 +1,12 @@
 -- `locate` meets its contract. 30 and 31 are lines of its table; past them the eight bytes are there, and decide. Assumes nothing.
-use mathlib.Core.Path.{refl, sym, ap, _∙_}
-use mathlib.Core.Bool.{not}
+use mathlib.Core.Path.{refl, _∙_}
 use native.Mathlib.Omega.{arith}
 use borrow.Author.Needs.{needs}
-use borrow.Author.Tests.{lt-ltb, le-ltb, not-false}
+use borrow.Author.Tests.{lt-ltb}
 use Rattle.slices.specs.Parts.{zeros}
 use Rattle.model.specs.Causes.{locateCauses}
 use Rattle.model.proofs.Verdicts.{first-here, first-later}
-use Rattle.model.proofs.Steps.{performed-locate}
+use Rattle.model.proofs.Steps.{performed-as}
 use Rattle.unit_state.specs.Standing.{stateOf}
 use Rattle.endings.proofs.Ends.{refused-by}
 use Rattle.storage.proofs.Laws.{fetched-array}
@@ -20,7 +19,7 @@ unfolding locateCauses stateOf
 returns c =
     let first = c .before .before .before .before in
     let a = first .args in
-    λ d store. refused-by (a .u) (a .c) (a .s) (a .main .now) store _ _ _ 30 _ (performed-locate d (a .c) _ (a .main .now) store (first .pre .1))
+    λ d store. refused-by (a .u) (a .c) (a .s) (a .main .now) store _ _ _ 30 _ (performed-as d (a .c) _ (a .main .now) store .locate (first .pre .1))
     (c .refuse .ensures) (first-here _ _ (c .before .if1 .taken)) refl refl
 
 returns-2 : tie.Need-returns-2
@@ -28,7 +27,7 @@ unfolding locateCauses stateOf
 returns-2 c =
     let first = c .before .before .before .before .before .before in
     let a = first .args in
-    λ d store. refused-by (a .u) (a .c) (a .s) (a .main .now) store _ _ _ 31 _ (performed-locate d (a .c) _ (a .main .now) store (first .pre .1))
+    λ d store. refused-by (a .u) (a .c) (a .s) (a .main .now) store _ _ _ 31 _ (performed-as d (a .c) _ (a .main .now) store .locate (first .pre .1))
     (c .refuse2 .ensures) (first-later _ _ (c .before .before .before .if1 .left) ∙ first-here _ _ (lt-ltb _ _ (c .before .if2 .taken))) refl refl
 
 locate-by-requires : tie.Need-locate-by-requires
@@ -46,9 +45,7 @@ returns-3 c =
     λ d store. locate-ends (a .u) d (a .c) (a .s) (a .main .now) store _ (c .locate-by .ensures) (first .pre .1) (at .before .before .if1 .left) (at .if2 .left)
 
 pub locate-spec : {M : Type 1} → statement M
-locate-spec =
-    tie.close
-    (tie.spec
+locate-spec = tie.close (tie.spec
     (search needs)  -- refuse-requires
     returns
     (search needs)  -- refuse-requires-2

@@ -41,9 +41,7 @@ returns-2 c =
     ∙ sym (pick-true _ _ _ (eq-eqb _ _ (rw told at (tested .if1 .left))))
 
 pub locate-by-spec : {M : Type 1} → statement M
-locate-by-spec =
-    tie.close
-    (tie.spec
+locate-by-spec = tie.close (tie.spec
     locate-parameters-requires
     (search needs)  -- number-requires
     (search needs)  -- shown-by-requires

@@ -75,9 +75,7 @@ returns-5 c =
     c .permit .ensures ∙ ap (λ (n : ℕ). firstOf (permissionCauses s located n)) (c .before .blocks-processed .ensures) ∙ sym (past-replication (c .before .before))
 
 pub locate-parameters-spec : {M : Type 1} → statement M
-locate-parameters-spec =
-    tie.close
-    (tie.spec
+locate-parameters-spec = tie.close (tie.spec
     (λ c κs. c .before .pre)  -- located-in-requires
     (λ c. eight (c .before .before .before .pre) tt)  -- shared-slice-read-wide
     (λ c κs. tt)  -- wide-requires

@@ -7,9 +7,6 @@ use Rattle.command_locate.proofs.Tests.{eight}
 use Rattle.command_locate.proofs.located_in.Statement.{statement}
 use Rattle.command_locate.proofs.located_in.Tie as tie
 
-cast-t5 : tie.Need-cast-t5
-cast-t5 c = fits-under _ _ 16 (mask-lt (getD (c .before .before .args .p .now) 0 0) 4) tt
-
 returns : tie.Need-returns
 unfolding locatedIn
 returns c =
@@ -17,10 +14,9 @@ returns c =
     (rw (and-mask byte 4, c .before .be4 .ensures, c .be2 .ensures .0), mask-lt byte 4, c .be2 .ensures .1)
 
 pub located-in-spec : {M : Type 1} → statement M
-located-in-spec = tie.close
-    (tie.spec
+located-in-spec = tie.close (tie.spec
     (λ c. eight (c .before .before .pre) tt)  -- shared-slice-read-t3
-    cast-t5
+    (λ c. fits-under _ _ 16 (mask-lt (getD (c .before .before .args .p .now) 0 0) 4) tt)  -- cast-t5
     (λ c κs. eight (c .before .before .pre) tt)  -- be4-requires
     (λ c κs. eight (c .before .before .before .pre) tt)  -- be2-requires
     returns)

@@ -53,9 +53,7 @@ unfolding permissionCauses
 returns-5 c = sym (past-switch (c .before .before) ∙ first-later _ _ (ne-eqb _ _ (c .if4 .left)) ∙ first-none)
 
 pub permit-spec : {M : Type 1} → statement M
-permit-spec =
-    tie.close
-    (tie.spec
+permit-spec = tie.close (tie.spec
     (λ c κs. c .before .pre .1)  -- outside-extent-requires
     returns
     (λ c κs. c .before .before .before .pre .0)  -- mask-forbids-requires

@@ -17,15 +17,10 @@ returns c =
     fetched-array (first .args .c) (first .args .main .now) _ _ (c .before .fetch .ensures) (omega (arith, first .pre .0 .area, first .pre .1))
     ∙ sym (pick-true _ _ _ (eq-eqb _ _ (c .before .before .before .if1 .taken)))
 
-returns-2 : tie.Need-returns-2
-unfolding shown zeros
-returns-2 c = sym (pick-false _ _ _ (ne-eqb _ _ (c .if1 .left)))
-
 pub shown-by-spec : {M : Type 1} → statement M
-shown-by-spec =
-    tie.close
-    (tie.spec
+unfolding shown zeros
+shown-by-spec = tie.close (tie.spec
     (search needs)  -- slice-aggregate-fetch
     (search needs)  -- fetch-requires
     returns
-    returns-2)
+    (λ c. sym (pick-false _ _ _ (ne-eqb _ _ (c .if1 .left)))))  -- returns-2

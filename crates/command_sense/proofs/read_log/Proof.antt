@@ -20,14 +20,6 @@ empty = record { sense = []; «blocks_read» = []; «blocks_written» = []; move
 long : (c : tie.After-of) → length (c .of .result .0) ≡ 24
 long c = ap length (c .of .ensures empty) ∙ log-length empty _ (arrays (c .before .before))
 
-slice-aggregate-send : tie.Need-slice-aggregate-send
-slice-aggregate-send c = search needs
-
-send-requires : tie.Need-send-requires
-send-requires c κs =
-    let of = c .before .before .before .before in
-    (of .before .before .pre .0, omega (arith, long of))
-
 returns : tie.Need-returns
 returns c =
     let sent = c .before .before in
@@ -38,12 +30,10 @@ returns c =
     λ u d store. log-ends u d (a .c) (a .s) (a .main .now) store _ _ _ (first .pre .1) (of .of .ensures) (long of) (rw (none .none-counted .ensures) at (sent .send .ensures .1)) (sent .send .ensures .0)
 
 pub read-log-spec : {M : Type 1} → statement M
-read-log-spec =
-    tie.close
-    (tie.spec
+read-log-spec = tie.close (tie.spec
     (search needs)  -- of-requires
-    slice-aggregate-send
+    (λ c. search needs)  -- slice-aggregate-send
     (search needs)  -- none-counted-requires
-    send-requires
+    (λ c κs. let of = c .before .before .before .before in (of .before .before .pre .0, omega (arith, long of)))  -- send-requires
     (search needs)  -- same-length
     returns)

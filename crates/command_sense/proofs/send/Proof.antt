@@ -12,9 +12,7 @@ returns c =
     (rw n at (sent .deliver .ensures) ∙ delivered-first _ _ _, rw (c .before .after .ensures, n) at (c .accept .ensures))
 
 pub send-spec : {M : Type 1} → statement M
-send-spec =
-    tie.close
-    (tie.spec
+send-spec = tie.close (tie.spec
     (search needs)  -- least-requires
     (search needs)  -- deliver-requires
     (search needs)  -- after-requires

@@ -16,9 +16,7 @@ returns c =
     λ d store. sense-ends (a .u) d (a .c) (a .s) (a .main .now) store _ _ _ (first .pre .1) (now .sense-now .ensures) long (sent .send .ensures .1) (sent .send .ensures .0)
 
 pub sense-spec : {M : Type 1} → statement M
-sense-spec =
-    tie.close
-    (tie.spec
+sense-spec = tie.close (tie.spec
     (search needs)  -- sense-now-requires
     (search needs)  -- slice-aggregate-send
     (search needs)  -- send-requires

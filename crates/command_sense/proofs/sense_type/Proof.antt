@@ -13,9 +13,7 @@ returns c =
     λ u d store. type-ends u d (a .c) (a .s) (a .main .now) store _ _ _ (first .pre .1) refl (sent .send .ensures .1) (sent .send .ensures .0)
 
 pub sense-type-spec : {M : Type 1} → statement M
-sense-type-spec =
-    tie.close
-    (tie.spec
+sense-type-spec = tie.close (tie.spec
     (search needs)  -- slice-aggregate-send
     (search needs)  -- send-requires
     (search needs)  -- same-length

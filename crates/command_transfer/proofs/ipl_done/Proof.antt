@@ -9,9 +9,7 @@ returns c =
     rw (c .before .extent-set .ensures, c .before .before .whole-device .ensures, counted .movement-counted .ensures, counted .before .read-counted .ensures) at (c .accept .ensures)
 
 pub ipl-done-spec : {M : Type 1} → statement M
-ipl-done-spec =
-    tie.close
-    (tie.spec
+ipl-done-spec = tie.close (tie.spec
     (search needs)  -- read-counted-requires
     (search needs)  -- movement-counted-requires
     (search needs)  -- whole-device-requires

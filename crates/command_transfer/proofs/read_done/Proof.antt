@@ -11,20 +11,10 @@ few c =
     let first = c .before in
     omega (arith, c .begun .ensures, begun-least (first .args .d) (first .args .m .n) (first .pre .0), first .pre .2, first .pre .3)
 
-read-counted-requires : tie.Need-read-counted-requires
-read-counted-requires c κs = omega (arith, few c)
-
-accept-requires : tie.Need-accept-requires
-accept-requires c κs = let begun = c .before .before in (begun .before .pre .2, begun .before .pre .3, few begun)
-
-returns : tie.Need-returns
-returns c = rw (c .before .after .ensures, c .before .before .read-counted .ensures, c .before .before .before .begun .ensures) at (c .accept .ensures)
-
 pub read-done-spec : {M : Type 1} → statement M
-read-done-spec = tie.close
-    (tie.spec
+read-done-spec = tie.close (tie.spec
     (search needs)  -- begun-requires
-    read-counted-requires
+    (λ c κs. omega (arith, few c))  -- read-counted-requires
     (search needs)  -- after-requires
-    accept-requires
-    returns)
+    (λ c κs. let begun = c .before .before in (begun .before .pre .2, begun .before .pre .3, few begun))  -- accept-requires
+    (λ c. rw (c .before .after .ensures, c .before .before .read-counted .ensures, c .before .before .before .begun .ensures) at (c .accept .ensures)))  -- returns

@@ -6,7 +6,7 @@ use borrow.Author.Needs.{needs}
 use Rattle.model.specs.Causes.{readIplCauses}
 use Rattle.model.proofs.Verdicts.{first-here, first-later, first-none}
 use Rattle.model.proofs.Lengths.{in-store}
-use Rattle.model.proofs.Steps.{performed-read-ipl}
+use Rattle.model.proofs.Steps.{performed-as}
 use Rattle.unit_state.specs.Standing.{stateOf}
 use Rattle.endings.proofs.Ends.{refused-by}
 use Rattle.command_transfer.proofs.Transfers.{ipl-ends}
@@ -19,7 +19,7 @@ returns c =
     let tested = c .before in
     let first = tested .before .before .before .before in
     let a = first .args in
-    λ u. refused-by u (a .c) (a .s) (a .main .now) (a .store .now) _ _ _ 40 _ (performed-read-ipl (a .d) (a .c) _ (a .main .now) (a .store .now) (first .pre .2)) (c .refuse .ensures)
+    λ u. refused-by u (a .c) (a .s) (a .main .now) (a .store .now) _ _ _ 40 _ (performed-as (a .d) (a .c) _ (a .main .now) (a .store .now) .read-ipl (first .pre .2)) (c .refuse .ensures)
     (first-here _ _ (ap not (sym (tested .before .none-or-ipl .ensures)) ∙ tested .if1 .taken)) refl refl
 
 read-blocks-requires : tie.Need-read-blocks-requires
@@ -43,9 +43,7 @@ returns-2 c =
     (c .ipl-done .ensures) (least .least .ensures) (c .before .block-count .ensures) (moved .read-blocks .ensures)
 
 pub read-ipl-spec : {M : Type 1} → statement M
-read-ipl-spec =
-    tie.close
-    (tie.spec
+read-ipl-spec = tie.close (tie.spec
     (search needs)  -- none-or-ipl-requires
     (search needs)  -- refuse-requires
     returns

@@ -5,13 +5,9 @@ use borrow.Author.Needs.{needs}
 use Rattle.command_transfer.proofs.whole_device.Statement.{statement}
 use Rattle.command_transfer.proofs.whole_device.Tie as tie
 
-returns : tie.Need-returns
-unfolding wholeDevice
-returns c = refl
-
 pub whole-device-spec : {M : Type 1} → statement M
-whole-device-spec = tie.close
-    (tie.spec
+unfolding wholeDevice
+whole-device-spec = tie.close (tie.spec
     (search needs)  -- sub-last
     (search needs)  -- cast-last
-    returns)
+    (λ c. refl))  -- returns

@@ -14,8 +14,7 @@ returns : tie.Need-returns
 returns c = rw (c .before .before .after .ensures, c .before .before .before .written .ensures, c .before .begun .ensures) at (c .accept .ensures)
 
 pub write-done-spec : {M : Type 1} → statement M
-write-done-spec = tie.close
-    (tie.spec
+write-done-spec = tie.close (tie.spec
     (search needs)  -- written-requires
     (search needs)  -- after-requires
     (search needs)  -- begun-requires

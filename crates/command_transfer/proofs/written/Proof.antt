@@ -7,17 +7,9 @@ use borrow.Author.Needs.{needs}
 use Rattle.command_transfer.proofs.written.Statement.{statement}
 use Rattle.command_transfer.proofs.written.Tie as tie
 
-returns : tie.Need-returns
-unfolding writtenBy
-returns c = c .written-counted .ensures ∙ sym (pick-true _ _ _ (eq-eqb _ _ (c .before .if1 .taken)))
-
-returns-2 : tie.Need-returns-2
-unfolding writtenBy
-returns-2 c = sym (pick-false _ _ _ (ne-eqb _ _ (c .if1 .left)))
-
 pub written-spec : {M : Type 1} → statement M
-written-spec = tie.close
-    (tie.spec
+unfolding writtenBy
+written-spec = tie.close (tie.spec
     (search needs)  -- written-counted-requires
-    returns
-    returns-2)
+    (λ c. c .written-counted .ensures ∙ sym (pick-true _ _ _ (eq-eqb _ _ (c .before .if1 .taken))))  -- returns
+    (λ c. sym (pick-false _ _ _ (ne-eqb _ _ (c .if1 .left)))))  -- returns-2

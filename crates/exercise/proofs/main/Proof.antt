@@ -7,9 +7,7 @@ use Rattle.exercise.proofs.main.Statement.{statement}
 use Rattle.exercise.proofs.main.Tie as tie
 
 pub main-spec : {M : Type 1} → statement M
-main-spec =
-    tie.close
-    (tie.spec
+main-spec = tie.close (tie.spec
     (search needs)  -- buffer-requires
     (search needs)  -- slice-aggregate-read-full
     (search needs)  -- read-full-requires

@@ -5,16 +5,11 @@ use Rattle.model.specs.Log.{added2}
 use Rattle.log.proofs.added2.Statement.{statement}
 use Rattle.log.proofs.added2.Tie as tie
 
-returns : tie.Need-returns
-unfolding added2
-returns c = rw (c .bytes2 .ensures, c .before .least .ensures, c .before .before .number2 .ensures .0)
-
 pub added2-spec : {M : Type 1} → statement M
-added2-spec =
-    tie.close
-    (tie.spec
+unfolding added2
+added2-spec = tie.close (tie.spec
     (search needs)  -- number2-requires
     (search needs)  -- add-least
     (search needs)  -- least-requires
     (search needs)  -- bytes2-requires
-    returns)
+    (λ c. rw (c .bytes2 .ensures, c .before .least .ensures, c .before .before .number2 .ensures .0)))  -- returns

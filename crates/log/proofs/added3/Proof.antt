@@ -5,16 +5,11 @@ use Rattle.model.specs.Log.{added3}
 use Rattle.log.proofs.added3.Statement.{statement}
 use Rattle.log.proofs.added3.Tie as tie
 
-returns : tie.Need-returns
-unfolding added3
-returns c = rw (c .bytes3 .ensures, c .before .least .ensures, c .before .before .number3 .ensures .0)
-
 pub added3-spec : {M : Type 1} → statement M
-added3-spec =
-    tie.close
-    (tie.spec
+unfolding added3
+added3-spec = tie.close (tie.spec
     (search needs)  -- number3-requires
     (search needs)  -- add-least
     (search needs)  -- least-requires
     (search needs)  -- bytes3-requires
-    returns)
+    (λ c. rw (c .bytes3 .ensures, c .before .least .ensures, c .before .before .number3 .ensures .0)))  -- returns

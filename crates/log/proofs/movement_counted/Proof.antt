@@ -7,7 +7,6 @@ returns : tie.Need-returns
 returns c = rw (c .added2 .ensures)
 
 pub movement-counted-spec : {M : Type 1} → statement M
-movement-counted-spec = tie.close
-    (tie.spec
+movement-counted-spec = tie.close (tie.spec
     (search needs)  -- added2-requires
     returns)

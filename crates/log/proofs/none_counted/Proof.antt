@@ -4,11 +4,7 @@ use Rattle.slices.specs.Parts.{zeros}
 use Rattle.log.proofs.none_counted.Statement.{statement}
 use Rattle.log.proofs.none_counted.Tie as tie
 
-returns : tie.Need-returns
-unfolding zeros
-returns c = refl
-
 pub none-counted-spec : {M : Type 1} → statement M
-none-counted-spec = tie.close
-    (tie.spec
-    returns)
+unfolding zeros
+none-counted-spec = tie.close (tie.spec
+    (λ c. refl))  -- returns

@@ -7,7 +7,6 @@ returns : tie.Need-returns
 returns c = rw (c .added3 .ensures)
 
 pub read-counted-spec : {M : Type 1} → statement M
-read-counted-spec = tie.close
-    (tie.spec
+read-counted-spec = tie.close (tie.spec
     (search needs)  -- added3-requires
     returns)

@@ -7,7 +7,6 @@ returns : tie.Need-returns
 returns c = rw (c .added3 .ensures)
 
 pub written-counted-spec : {M : Type 1} → statement M
-written-counted-spec = tie.close
-    (tie.spec
+written-counted-spec = tie.close (tie.spec
     (search needs)  -- added3-requires
     returns)

@@ -6,11 +6,7 @@ use Rattle.model.specs.Lent.{newRecord}
 use Rattle.record.proofs.new_record.Statement.{statement}
 use Rattle.record.proofs.new_record.Tie as tie
 
-returns : tie.Need-returns
-unfolding newRecord zeros
-returns c = refl
-
 pub new-record-spec : {M : Type 1} → statement M
-new-record-spec = tie.close
-    (tie.spec
-    returns)
+unfolding newRecord zeros
+new-record-spec = tie.close (tie.spec
+    (λ c. refl))  -- returns

@@ -38,9 +38,7 @@ returns c =
     counts .put-counts .ensures ∙ record-stored _ (start .args .to .now) _ (start .pre) (long start) (sense .put-at .ensures)
 
 pub pack-spec : {M : Type 1} → statement M
-pack-spec =
-    tie.close
-    (tie.spec
+pack-spec = tie.close (tie.spec
     (search needs)  -- slice-write-to
     (λ c. simp length-set (omega arith))  -- slice-write-to-2
     (λ c. search needs)  -- slice-aggregate-put-at

@@ -14,12 +14,6 @@ use Rattle.record.proofs.pack_left.Tie as tie
 front : (c : tie.Start) → length (take 24 (c .args .to .now)) ≡ 24
 front c = length-take-le 24 (c .args .to .now) (omega arith)
 
-slice-front : tie.Need-slice-aggregate-put-sense
-slice-front c = sym (front (c .before .before .before .before .before))
-
-front-long : tie.Need-put-sense-requires
-front-long c κs = front (c .before .before .before .before .before)
-
 returns : tie.Need-returns
 unfolding recordOf part
 returns c =
@@ -29,12 +23,10 @@ returns c =
     counts .put-counts .ensures ∙ left-stored (start .args .l) (start .args .to .now) _ (start .pre) (sense .put-sense .kept .1 .0 ∙ front start) (sense .put-sense .ensures (recordOf (start .args .to .now)) refl)
 
 pub pack-left-spec : {M : Type 1} → statement M
-pack-left-spec =
-    tie.close
-    (tie.spec
+pack-left-spec = tie.close (tie.spec
     (search needs)  -- slice-relend-prefix-put-sense
-    slice-front
-    front-long
+    (λ c. sym (front (c .before .before .before .before .before)))  -- slice-front
+    (λ c κs. front (c .before .before .before .before .before))  -- front-long
     (search needs)  -- put-counts-requires
     (search needs)  -- same-length
     returns)

@@ -13,9 +13,7 @@ returns c =
     counts-stored _ _ _ _ _ _ _ (search needs) (search needs) (search needs) (start .pre) (first .put-at .ensures) (second .put-at2 .ensures) (third .put-at3 .ensures)
 
 pub put-counts-spec : {M : Type 1} → statement M
-put-counts-spec =
-    tie.close
-    (tie.spec
+put-counts-spec = tie.close (tie.spec
     (λ c. search needs)  -- slice-aggregate-put-at
     (search needs)  -- put-at-requires
     (λ c. search needs)  -- slice-aggregate-put-at-2

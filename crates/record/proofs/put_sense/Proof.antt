@@ -38,9 +38,7 @@ returns-3 c =
     λ u e. rw (sense-is _ u _ (arm .before .of .ensures) (arm .match .keys2), not-false (start .args .l .state .kept) (c .if1 .left)) (sym e)
 
 pub put-sense-spec : {M : Type 1} → statement M
-put-sense-spec =
-    tie.close
-    (tie.spec
+put-sense-spec = tie.close (tie.spec
     (search needs)  -- of-requires
     (search needs)  -- enum-told
     (search needs)  -- sense-of-requires

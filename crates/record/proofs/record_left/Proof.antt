@@ -15,9 +15,7 @@ returns c =
     rw (put .put-sense .ensures (start .args .u) refl, unit-left (start .args .u) (start .args .l)) refl
 
 pub record-left-spec : {M : Type 1} → statement M
-record-left-spec =
-    tie.close
-    (tie.spec
+record-left-spec = tie.close (tie.spec
     (λ c. search needs)  -- slice-aggregate-put-sense
     (λ c κs. search needs)  -- put-sense-requires
     returns)

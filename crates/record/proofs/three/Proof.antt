@@ -17,9 +17,7 @@ returns c =
     rw (part-cons (a .s .now) (a .at) 2 (omega arith), part-cons (a .s .now) (a .at + 1) 1 (omega arith), e, part-cons (a .s .now) (a .at + 2) 0 (omega arith))
 
 pub three-spec : {M : Type 1} → statement M
-three-spec =
-    tie.close
-    (tie.spec
+three-spec = tie.close (tie.spec
     (search needs)  -- shared-slice-read-t4
     (search needs)  -- add-t5
     (search needs)  -- shared-slice-read-t7

@@ -15,8 +15,7 @@ returns c =
     rw (part-cons (a .s .now) (a .at) 1 (omega arith), part-cons (a .s .now) (a .at + 1) 0 (omega arith))
 
 pub two-spec : {M : Type 1} → statement M
-two-spec = tie.close
-    (tie.spec
+two-spec = tie.close (tie.spec
     (search needs)  -- shared-slice-read-t4
     (search needs)  -- add-t5
     (search needs)  -- shared-slice-read-t7

@@ -21,9 +21,7 @@ returns c =
     rw (sense, counts .before .before .three .ensures, counts .before .three2 .ensures, counts .two .ensures)
 
 pub unpack-spec : {M : Type 1} → statement M
-unpack-spec =
-    tie.close
-    (tie.spec
+unpack-spec = tie.close (tie.spec
     (search needs)  -- slice-aggregate-copy
     (search needs)  -- copy-requires
     (search needs)  -- three-requires

@@ -11,15 +11,6 @@ use Rattle.sense_table.proofs.Stores.{rowOf, row-before, row-past}
 use Rattle.sense_table.proofs.row_of.Statement.{statement}
 use Rattle.sense_table.proofs.row_of.Tie as tie
 
-returns : tie.Need-returns
-returns c = row-before _ (c .if1 .taken)
-
-returns-2 : tie.Need-returns-2
-returns-2 c = row-past _ (c .if2 .taken)
-
-in-table : tie.Need-array-copy-out-result
-in-table c = search needs
-
 returns-3 : tie.Need-returns-3
 unfolding rowIn pick
 returns-3 c =
@@ -30,12 +21,10 @@ returns-3 c =
     table-at (λ (k : ℕ). rowOf (20 + k)) _ 25 _ refl (cause - 20) (omega (arith, if1 .left, if2 .left)) ∙ ap rowOf back
 
 pub row-of-spec : {M : Type 1} → statement M
-row-of-spec =
-    tie.close
-    (tie.spec
-    returns
-    returns-2
+row-of-spec = tie.close (tie.spec
+    (λ c. row-before _ (c .if1 .taken))  -- returns
+    (λ c. row-past _ (c .if2 .taken))  -- returns-2
     (search needs)  -- cast-result
     (search needs)  -- mul-result
-    in-table
+    (λ c. search needs)  -- in-table
     returns-3)

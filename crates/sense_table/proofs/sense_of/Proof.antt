@@ -17,13 +17,8 @@ returns c =
     let i = p .before .before .before in
     p .put-at .ensures ∙ sense-shown _ _ _ (i .before .row-of .ensures) (eq-eqb _ _ (i .if1 .taken)) (long (i .before .before))
 
-returns-2 : tie.Need-returns-2
-returns-2 c = sense-plain _ _ _ (c .before .row-of .ensures) (ne-eqb _ _ (c .if1 .left))
-
 pub sense-of-spec : {M : Type 1} → statement M
-sense-of-spec =
-    tie.close
-    (tie.spec
+sense-of-spec = tie.close (tie.spec
     (search needs)  -- row-of-requires
     (search needs)  -- array-write-sense
     (search needs)  -- array-write-sense-2
@@ -32,4 +27,4 @@ sense-of-spec =
     (search needs)  -- slice-aggregate-put-at-2
     (search needs)  -- put-at-requires
     returns
-    returns-2)
+    (λ c. sense-plain _ _ _ (c .before .row-of .ensures) (ne-eqb _ _ (c .if1 .left))))  -- returns-2

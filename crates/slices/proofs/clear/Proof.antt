@@ -16,9 +16,6 @@ Inv-loop to₀ i₀ i-end to i = (i ≤ i-end) × (i-end ≡ length to₀) × (l
 abbrev μ-loop : tie.MeasureT-loop
 μ-loop to₀ i₀ i-end to i = i-end - i
 
-loop-holds : tie.Need-loop-holds Inv-loop μ-loop
-loop-holds c = (search needs, search needs, search needs, sym (put-zeros-none _))
-
 loop-again : tie.Need-loop-again Inv-loop μ-loop
 loop-again c =
     let l = c .before in
@@ -30,12 +27,10 @@ returns c =
     rw done at (c .before .loop .inv .3) ∙ put-all _ _ (length-zeros _)
 
 pub clear-spec : {M : Type 1} → statement M
-clear-spec =
-    tie.close
-    (tie.spec
+clear-spec = tie.close (tie.spec
     Inv-loop
     μ-loop
-    loop-holds
+    (λ c. (search needs, search needs, search needs, sym (put-zeros-none _)))  -- loop-holds
     (search needs)  -- slice-write-to
     (search needs)  -- add-i
     (search needs)  -- loop-less

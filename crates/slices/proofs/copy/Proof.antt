@@ -16,9 +16,6 @@ use Rattle.slices.proofs.copy.Tie as tie
 held : (room from : List ℕ) (n : ℕ) → n ≤ length from → n ≤ length room → take n (put room 0 (take n from)) ≡ take n from
 held room from n h fits = rw zero-add at (take-put room 0 (take n from) n (length-take-le n from h) (omega arith))
 
-each-requires : tie.Need-each-requires
-each-requires c κs = (omega arith, rw length-replicate (omega arith))
-
 returns : tie.Need-returns
 returns c =
     let first = c .before .before .before .before .before .before in
@@ -30,11 +27,9 @@ returns c =
     c .before .before .each2 .ensures ∙ ap (put (a .to .now) 0) same
 
 pub copy-spec : {M : Type 1} → statement M
-copy-spec =
-    tie.close
-    (tie.spec
+copy-spec = tie.close (tie.spec
     (search needs)  -- slice-aggregate-each
-    each-requires
+    (λ c κs. (omega arith, rw length-replicate (omega arith)))  -- each-requires
     (search needs)  -- slice-aggregate-each-2
     (search needs)  -- each-requires-2
     (search needs)  -- same-length

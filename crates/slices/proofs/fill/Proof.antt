@@ -12,9 +12,7 @@ returns c =
     pad-cleared _ _ _ _ _ (copied .before .before .least .ensures) (copied .copy .ensures) (cleared .clear .ensures)
 
 pub fill-spec : {M : Type 1} → statement M
-fill-spec =
-    tie.close
-    (tie.spec
+fill-spec = tie.close (tie.spec
     (search needs)  -- least-requires
     (search needs)  -- copy-requires
     (search needs)  -- sub-clear

@@ -16,9 +16,7 @@ returns c =
     put-lent-front l (take (a .n) (a .from .now)) _ (a .at) (length l - a .at) e (simp length-take (omega arith)) (simp length-take (omega arith))
 
 pub put-at-spec : {M : Type 1} → statement M
-put-at-spec =
-    tie.close
-    (tie.spec
+put-at-spec = tie.close (tie.spec
     (search needs)  -- sub-copy
     (search needs)  -- part-copy-start
     (search needs)  -- part-copy-end

@@ -6,18 +6,13 @@ use Rattle.storage.specs.Area.{fetchedFrom}
 use Rattle.storage.proofs.fetch.Statement.{statement}
 use Rattle.storage.proofs.fetch.Tie as tie
 
-returns : tie.Need-returns
-unfolding fetchedFrom part
-returns c = rw rest-lent at (c .before .before .copy .ensures)
-
 pub fetch-spec : {M : Type 1} → statement M
-fetch-spec =
-    tie.close
-    (tie.spec
+unfolding fetchedFrom part
+fetch-spec = tie.close (tie.spec
     (search needs)  -- add-at
     (search needs)  -- sub-copy
     (search needs)  -- part-copy-start
     (search needs)  -- part-copy-end
     (search needs)  -- copy-requires
     (search needs)  -- same-length
-    returns)
+    (λ c. rw rest-lent at (c .before .before .copy .ensures)))  -- returns

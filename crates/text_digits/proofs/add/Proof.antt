@@ -4,20 +4,12 @@ use borrow.Author.Needs.{needs}
 use Rattle.text_digits.proofs.add.Statement.{statement}
 use Rattle.text_digits.proofs.add.Tie as tie
 
-returns : tie.Need-returns
-returns c = adds-none (c .if1 .taken)
-
-returns-2 : tie.Need-returns-2
-returns-2 c = adds-fits (c .before .before .before .before .least .ensures) (c .before .before .put-at .ensures)
-
 pub add-spec : {M : Type 1} → statement M
-add-spec =
-    tie.close
-    (tie.spec
-    returns
+add-spec = tie.close (tie.spec
+    (λ c. adds-none (c .if1 .taken))  -- returns
     (search needs)  -- sub-least
     (search needs)  -- least-requires
     (search needs)  -- put-at-requires
     (search needs)  -- add-result
     (search needs)  -- same-length
-    returns-2)
+    (λ c. adds-fits (c .before .before .before .before .least .ensures) (c .before .before .put-at .ensures)))  -- returns-2

@@ -8,9 +8,7 @@ returns : tie.Need-returns
 returns c = rw (hex-one, ← (c .before .before .before .before .before .before .digit .ensures), ← (c .before .before .before .before .before .digit2 .ensures)) (c .before .before .add .ensures)
 
 pub add-byte-spec : {M : Type 1} → statement M
-add-byte-spec =
-    tie.close
-    (tie.spec
+add-byte-spec = tie.close (tie.spec
     (search needs)  -- digit-requires
     (search needs)  -- digit-requires-2
     (search needs)  -- slice-aggregate-add

@@ -33,9 +33,7 @@ returns c =
     rw (done, take-length) at (c .before .loop .inv .3)
 
 pub add-hex-spec : {M : Type 1} → statement M
-add-hex-spec =
-    tie.close
-    (tie.spec
+add-hex-spec = tie.close (tie.spec
     Inv-loop
     μ-loop
     loop-holds

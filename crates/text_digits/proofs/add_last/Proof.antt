@@ -3,16 +3,11 @@ use borrow.Author.Needs.{needs}
 use Rattle.text_digits.proofs.add_last.Statement.{statement}
 use Rattle.text_digits.proofs.add_last.Tie as tie
 
-returns : tie.Need-returns
-returns c = rw (← (c .before .before .before .before .before .digit .ensures)) (c .before .before .add .ensures)
-
 pub add-last-spec : {M : Type 1} → statement M
-add-last-spec =
-    tie.close
-    (tie.spec
+add-last-spec = tie.close (tie.spec
     (search needs)  -- cast-digit
     (search needs)  -- digit-requires
     (search needs)  -- slice-aggregate-add
     (search needs)  -- add-requires
     (search needs)  -- same-length
-    returns)
+    (λ c. rw (← (c .before .before .before .before .before .digit .ensures)) (c .before .before .add .ensures)))  -- returns

@@ -32,9 +32,7 @@ returns-2 c =
     sym (l .inv .2 ∙ digits-none (c .before .before .before .args .text .now) (l .i) (omega arith))
 
 pub all-digits-spec : {M : Type 1} → statement M
-all-digits-spec =
-    tie.close
-    (tie.spec
+all-digits-spec = tie.close (tie.spec
     Inv-loop
     μ-loop
     (search needs)  -- loop-holds

@@ -20,9 +20,6 @@ Inv-loop text to₀ i₀ i-end to i = (i ≤ i-end) × (i-end ≡ length to₀) 
 abbrev μ-loop : tie.MeasureT-loop
 μ-loop text to₀ i₀ i-end to i = i-end - i
 
-loop-holds : tie.Need-loop-holds Inv-loop μ-loop
-loop-holds c = search needs
-
 loop-again : tie.Need-loop-again Inv-loop μ-loop
 loop-again c =
     let l = c .before .before .before .before .before .loop in
@@ -35,12 +32,10 @@ returns c =
     decoded-all (c .before .before .before .before .args .text .now) (l .to) (l .i) _ (l .inv .4) (omega arith) (omega arith)
 
 pub decode-spec : {M : Type 1} → statement M
-decode-spec =
-    tie.close
-    (tie.spec
+decode-spec = tie.close (tie.spec
     Inv-loop
     μ-loop
-    loop-holds
+    (λ c. search needs)  -- loop-holds
     (search needs)  -- mul-value-of
     (search needs)  -- shared-slice-read-value-of
     (search needs)  -- value-of-requires

@@ -15,9 +15,7 @@ returns c =
     rw (w .1) at (told-same _ _ _ (c .same .ensures .0) (c .same .ensures .1))
 
 pub is-decimal-spec : {M : Type 1} → statement M
-is-decimal-spec =
-    tie.close
-    (tie.spec
+is-decimal-spec = tie.close (tie.spec
     (search needs)  -- slice-aggregate-add-decimal
     (search needs)  -- add-decimal-requires
     (search needs)  -- array-share-prefix-digits

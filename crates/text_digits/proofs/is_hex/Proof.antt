@@ -14,8 +14,7 @@ unfolding isHex
 returns-2 c = simp (eq-eqb _ _ (c .before .if1 .left)) (c .all-digits .ensures)
 
 pub is-hex-spec : {M : Type 1} → statement M
-is-hex-spec = tie.close
-    (tie.spec
+is-hex-spec = tie.close (tie.spec
     returns
     (search needs)  -- all-digits-requires
     returns-2)

@@ -7,17 +7,9 @@ use borrow.Author.Needs.{needs}
 use Rattle.text_digits.proofs.value_of.Statement.{statement}
 use Rattle.text_digits.proofs.value_of.Tie as tie
 
-returns : tie.Need-returns
-unfolding valueOf pick
-returns c = (simp (lt-ltb _ _ (c .if1 .taken)), omega arith)
-
-returns-2 : tie.Need-returns-2
-unfolding valueOf pick
-returns-2 c = (simp (le-ltb _ _ (c .if1 .left)), omega arith)
-
 pub value-of-spec : {M : Type 1} → statement M
-value-of-spec = tie.close
-    (tie.spec
+unfolding valueOf pick
+value-of-spec = tie.close (tie.spec
     (search needs)  -- add-result
-    returns
-    returns-2)
+    (λ c. (simp (lt-ltb _ _ (c .if1 .taken)), omega arith))  -- returns
+    (λ c. (simp (le-ltb _ _ (c .if1 .left)), omega arith)))  -- returns-2

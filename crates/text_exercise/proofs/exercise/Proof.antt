@@ -15,9 +15,7 @@ unfolding exercise pick
 returns-2 c = rw (← (c .before .before .before .before .before .before .before .before .before .before .before .before .before .wrong-line .ensures), eq-eqb _ _ (c .before .before .before .before .before .before .before .before .before .before .before .before .if1 .left)) (c .before .before .before .before .before .before .run-input .ensures)
 
 pub exercise-spec : {M : Type 1} → statement M
-exercise-spec =
-    tie.close
-    (tie.spec
+exercise-spec = tie.close (tie.spec
     (search needs)  -- wrong-line-requires
     (search needs)  -- refuse-requires
     (search needs)  -- same-length

@@ -18,9 +18,6 @@ Inv-loop store₀ blocks i₀ i-end store i = (i ≤ i-end) × (i-end ≡ length
 abbrev μ-loop : tie.MeasureT-loop
 μ-loop store₀ blocks i₀ i-end store i = i-end - i
 
-loop-holds : tie.Need-loop-holds Inv-loop μ-loop
-loop-holds c = (search needs, search needs, search needs, search needs, search needs, refl)
-
 loop-again : tie.Need-loop-again Inv-loop μ-loop
 loop-again c =
     let l = c .before .loop in
@@ -32,12 +29,10 @@ returns c =
     device-whole (l .store) (c .before .before .args .blocks) (l .i) (l .inv .5) (omega arith) (omega arith)
 
 pub number-blocks-spec : {M : Type 1} → statement M
-number-blocks-spec =
-    tie.close
-    (tie.spec
+number-blocks-spec = tie.close (tie.spec
     Inv-loop
     μ-loop
-    loop-holds
+    (λ c. (search needs, search needs, search needs, search needs, search needs, refl))  -- loop-holds
     (search needs)  -- cast-store
     (search needs)  -- slice-write-store
     (search needs)  -- add-i

@@ -10,9 +10,6 @@ use borrow.Author.Needs.{needs}
 use Rattle.text_exercise.proofs.run_on_device.Statement.{statement}
 use Rattle.text_exercise.proofs.run_on_device.Tie as tie
 
-number-blocks-requires : tie.Need-number-blocks-requires
-number-blocks-requires c κs = (length-take-le _ _ (omega arith), c .before .before .before .before .before .before .before .pre .0)
-
 slice-aggregate-run : tie.Need-slice-aggregate-run
 slice-aggregate-run c =
     let a = c .before .before .before .before .before .before .before .before .before .before .before .before .before .before .args in
@@ -26,13 +23,11 @@ returns c =
     rw (exercised-is (a .s) (a .chain .now) (a .main .now) _ _ (take-at _ (drop (a .s .blocks * classA .block) (a .store .now)) _ kept ∙ c .before .before .before .before .before .before .before .before .before .before .before .before .before .before .before .before .number-blocks .ensures) (c .before .before .before .before .before .before .before .before .before .before .before .before .before .new-record .ensures)) (c .before .before .before .before .before .before .before .before .run .ensures)
 
 pub run-on-device-spec : {M : Type 1} → statement M
-run-on-device-spec =
-    tie.close
-    (tie.spec
+run-on-device-spec = tie.close (tie.spec
     (search needs)  -- mul-size
     (search needs)  -- slice-relend-prefix-number-blocks
     (λ c. sym (length-take-le _ _ (omega arith)))  -- slice-aggregate-number-blocks
-    number-blocks-requires
+    (λ c κs. (length-take-le _ _ (omega arith), c .before .before .before .before .before .before .before .pre .0))  -- number-blocks-requires
     (search needs)  -- new-record-requires
     (search needs)  -- slice-relend-prefix-run
     slice-aggregate-run

@@ -25,9 +25,7 @@ returns c =
     read-front (rw e at (c .before .before .decode .ensures)) (c .before .before .decode .kept .1 .0 ∙ length-take-le _ _ (omega arith)) (omega arith)
 
 pub bytes-of-spec : {M : Type 1} → statement M
-bytes-of-spec =
-    tie.close
-    (tie.spec
+bytes-of-spec = tie.close (tie.spec
     (search needs)  -- sub-end
     (search needs)  -- sub-n
     (search needs)  -- sub-decode

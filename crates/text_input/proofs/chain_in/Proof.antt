@@ -43,13 +43,8 @@ loop-again c =
     let next : (l .n + 1) * ccwSize ≡ l .n * ccwSize + ccwSize = omega arith in
     (search needs, s .2, search needs, search needs, omega (arith, s .1), rw next (chain-more (c .before .before .before .before .before .before .before .before .before .before .before .args .input .now) (l .to) (l .at) (l .n * ccwSize) _ (c .before .before .before .before .before .line-end .ensures .0) (search needs) (s .0) (omega (arith, s .1, l .inv)) (c .before .before .bytes-of .ensures) (l .inv .5)))
 
-returns : tie.Need-returns Inv-loop μ-loop
-returns c = goes-done (rw (chain-done (c .before .before .before .before .before .args .input .now) (c .before .loop .at) (search needs)) at (c .before .loop .inv .5)) (omega (arith, c .before .loop .inv))
-
 pub chain-in-spec : {M : Type 1} → statement M
-chain-in-spec =
-    tie.close
-    (tie.spec
+chain-in-spec = tie.close (tie.spec
     Inv-loop
     μ-loop
     (search needs)  -- line-start-requires
@@ -68,4 +63,4 @@ chain-in-spec =
     loop-again
     (search needs)  -- mul-result
     (search needs)  -- same-length
-    returns)
+    (λ c. goes-done (rw (chain-done (c .before .before .before .before .before .args .input .now) (c .before .loop .at) (search needs)) at (c .before .loop .inv .5)) (omega (arith, c .before .loop .inv))))  -- returns

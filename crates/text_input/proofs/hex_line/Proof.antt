@@ -7,44 +7,21 @@ use borrow.Author.Needs.{needs}
 use Rattle.text_input.proofs.hex_line.Statement.{statement}
 use Rattle.text_input.proofs.hex_line.Tie as tie
 
-returns : tie.Need-returns
-returns c = hex-not-keyed _ _ _ _ _ (c .before .keyed .ensures) (not-true _ (c .if1 .taken))
-
-sub-end : tie.Need-sub-end
-sub-end c = omega (arith, keyed-long _ _ _ (c .before .keyed .ensures) (not-false _ (c .if1 .left)))
-
-sub-n : tie.Need-sub-n
-sub-n c = omega (arith, keyed-long _ _ _ (c .before .keyed .ensures) (not-false _ (c .if1 .left)))
-
-returns-2 : tie.Need-returns-2
-returns-2 c = hex-few _ _ _ _ _ (c .before .before .keyed .ensures) (not-false _ (c .before .if1 .left)) (c .if2 .taken)
-
-returns-3 : tie.Need-returns-3
-returns-3 c = hex-many _ _ _ _ _ (c .before .before .before .keyed .ensures) (not-false _ (c .before .before .if1 .left)) (c .before .if2 .left) (c .if3 .taken)
-
-sub-is-hex : tie.Need-sub-is-hex
-sub-is-hex c = omega (arith, keyed-long _ _ _ (c .before .before .before .keyed .ensures) (not-false _ (c .before .before .if1 .left)))
-
-part-is-hex-start : tie.Need-part-is-hex-start
-part-is-hex-start c = omega (arith, keyed-long _ _ _ (c .before .before .before .keyed .ensures) (not-false _ (c .before .before .if1 .left)))
-
 returns-4 : tie.Need-returns-4
 returns-4 c =
     let long = keyed-long _ _ _ (c .before .before .before .before .before .keyed .ensures) (not-false _ (c .before .before .before .before .if1 .left)) in
     hex-some _ _ _ _ _ (c .before .before .before .before .before .keyed .ensures) _ (not-false _ (c .before .before .before .before .if1 .left)) (c .before .before .before .if2 .left) (c .before .before .if3 .left) (rw (value-lent _ _ _ refl long) at (c .is-hex .ensures))
 
 pub hex-line-spec : {M : Type 1} → statement M
-hex-line-spec =
-    tie.close
-    (tie.spec
+hex-line-spec = tie.close (tie.spec
     (search needs)  -- keyed-requires
-    returns
-    sub-end
-    sub-n
-    returns-2
-    returns-3
-    sub-is-hex
-    part-is-hex-start
+    (λ c. hex-not-keyed _ _ _ _ _ (c .before .keyed .ensures) (not-true _ (c .if1 .taken)))  -- returns
+    (λ c. omega (arith, keyed-long _ _ _ (c .before .keyed .ensures) (not-false _ (c .if1 .left))))  -- sub-end
+    (λ c. omega (arith, keyed-long _ _ _ (c .before .keyed .ensures) (not-false _ (c .if1 .left))))  -- sub-n
+    (λ c. hex-few _ _ _ _ _ (c .before .before .keyed .ensures) (not-false _ (c .before .if1 .left)) (c .if2 .taken))  -- returns-2
+    (λ c. hex-many _ _ _ _ _ (c .before .before .before .keyed .ensures) (not-false _ (c .before .before .if1 .left)) (c .before .if2 .left) (c .if3 .taken))  -- returns-3
+    (λ c. omega (arith, keyed-long _ _ _ (c .before .before .before .keyed .ensures) (not-false _ (c .before .before .if1 .left))))  -- sub-is-hex
+    (λ c. omega (arith, keyed-long _ _ _ (c .before .before .before .keyed .ensures) (not-false _ (c .before .before .if1 .left))))  -- part-is-hex-start
     (search needs)  -- part-is-hex-end
     (search needs)  -- is-hex-requires
     returns-4)

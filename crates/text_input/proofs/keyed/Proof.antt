@@ -9,26 +9,13 @@ use borrow.Author.Needs.{needs}
 use Rattle.text_input.proofs.keyed.Statement.{statement}
 use Rattle.text_input.proofs.keyed.Tie as tie
 
-returns : tie.Need-returns
-unfolding keyed
-returns c = simp (le-ltb _ _ (c .if1 .taken))
-
-returns-2 : tie.Need-returns-2
-unfolding keyed
-returns-2 c = simp (lt-ltb _ _ (c .before .before .if1 .left), ne-eqb _ _ (c .if2 .taken))
-
-returns-3 : tie.Need-returns-3
-unfolding keyed
-returns-3 c = simp (lt-ltb _ _ (c .before .before .before .before .if1 .left), eq-eqb _ _ (c .before .before .if2 .left)) (told-same _ _ _ (c .same .ensures .0) (c .same .ensures .1))
-
 pub keyed-spec : {M : Type 1} → statement M
-keyed-spec =
-    tie.close
-    (tie.spec
-    returns
+unfolding keyed
+keyed-spec = tie.close (tie.spec
+    (λ c. simp (le-ltb _ _ (c .if1 .taken)))  -- returns
     (search needs)  -- sub-if2
     (search needs)  -- shared-slice-read-if2
-    returns-2
+    (λ c. simp (lt-ltb _ _ (c .before .before .if1 .left), ne-eqb _ _ (c .if2 .taken)))  -- returns-2
     (λ c. sym (length-take-le _ _ (omega arith)))  -- slice-aggregate-same
     (search needs)  -- same-requires
-    returns-3)
+    (λ c. simp (lt-ltb _ _ (c .before .before .before .before .if1 .left), eq-eqb _ _ (c .before .before .if2 .left)) (told-same _ _ _ (c .same .ensures .0) (c .same .ensures .1))))  -- returns-3

@@ -32,9 +32,7 @@ returns-2 c =
     (omega (arith, l .inv .1, no-line (c .before .before .args .input .now) (l .i) (search needs)), search needs)
 
 pub line-end-spec : {M : Type 1} → statement M
-line-end-spec =
-    tie.close
-    (tie.spec
+line-end-spec = tie.close (tie.spec
     Inv-loop
     μ-loop
     (search needs)  -- loop-holds

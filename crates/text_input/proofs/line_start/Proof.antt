@@ -16,9 +16,6 @@ Inv-loop input n at₀ i₀ at i = (i ≤ n) × (at ≤ length input) × (drop i
 abbrev μ-loop : tie.MeasureT-loop
 μ-loop input n at₀ i₀ at i = n - i
 
-loop-holds : tie.Need-loop-holds Inv-loop μ-loop
-loop-holds c = (search needs, search needs, refl)
-
 loop-again : tie.Need-loop-again Inv-loop μ-loop
 loop-again c =
     let l = c .before .before .loop in
@@ -31,12 +28,10 @@ returns c =
     (rw done at (l .inv .2), l .inv .1)
 
 pub line-start-spec : {M : Type 1} → statement M
-line-start-spec =
-    tie.close
-    (tie.spec
+line-start-spec = tie.close (tie.spec
     Inv-loop
     μ-loop
-    loop-holds
+    (λ c. (search needs, search needs, refl))  -- loop-holds
     (search needs)  -- line-end-requires
     (search needs)  -- add-i
     (search needs)  -- loop-less

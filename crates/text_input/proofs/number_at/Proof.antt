@@ -15,9 +15,7 @@ returns c =
     (is, rw is (number-bounded _ _ _ _ (c .before .before .before .before .before .pre .0)))
 
 pub number-at-spec : {M : Type 1} → statement M
-number-at-spec =
-    tie.close
-    (tie.spec
+number-at-spec = tie.close (tie.spec
     (search needs)  -- line-at-requires
     (search needs)  -- sub-number-of
     (search needs)  -- part-number-of-start

@@ -30,9 +30,7 @@ returns-2 c =
     number-none (c .before .before .before .args .text .now) (l .n) (c .before .before .before .args .most) _ (l .inv .2) (search needs)
 
 pub number-in-spec : {M : Type 1} → statement M
-number-in-spec =
-    tie.close
-    (tie.spec
+number-in-spec = tie.close (tie.spec
     Inv-loop
     μ-loop
     (search needs)  -- loop-holds

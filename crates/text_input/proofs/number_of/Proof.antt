@@ -8,35 +8,21 @@ use borrow.Author.Needs.{needs}
 use Rattle.text_input.proofs.number_of.Statement.{statement}
 use Rattle.text_input.proofs.number_of.Tie as tie
 
-sub-end : tie.Need-sub-end
-sub-end c = omega (arith, keyed-long _ _ _ (c .before .keyed .ensures) (c .if1 .taken))
-
-sub-number-in : tie.Need-sub-number-in
-sub-number-in c = omega (arith, keyed-long _ _ _ (c .before .keyed .ensures) (c .if1 .taken))
-
-part-number-in-start : tie.Need-part-number-in-start
-part-number-in-start c = omega (arith, keyed-long _ _ _ (c .before .keyed .ensures) (c .if1 .taken))
-
 returns : tie.Need-returns
 unfolding numberOf pick
 returns c =
     let long = keyed-long _ _ _ (c .before .before .before .keyed .ensures) (c .before .before .if1 .taken) in
     simp (← (c .before .before .before .keyed .ensures), c .before .before .if1 .taken) (rw (value-lent _ _ _ refl long) at (c .number-in .ensures))
 
-returns-2 : tie.Need-returns-2
-unfolding numberOf pick
-returns-2 c = simp (← (c .before .keyed .ensures), c .if1 .left)
-
 pub number-of-spec : {M : Type 1} → statement M
-number-of-spec =
-    tie.close
-    (tie.spec
+unfolding numberOf pick
+number-of-spec = tie.close (tie.spec
     (search needs)  -- keyed-requires
-    sub-end
-    sub-number-in
-    part-number-in-start
+    (λ c. omega (arith, keyed-long _ _ _ (c .before .keyed .ensures) (c .if1 .taken)))  -- sub-end
+    (λ c. omega (arith, keyed-long _ _ _ (c .before .keyed .ensures) (c .if1 .taken)))  -- sub-number-in
+    (λ c. omega (arith, keyed-long _ _ _ (c .before .keyed .ensures) (c .if1 .taken)))  -- part-number-in-start
     (search needs)  -- part-number-in-end
     (search needs)  -- number-in-requires
     (search needs)  -- add-result
     returns
-    returns-2)
+    (λ c. simp (← (c .before .keyed .ensures), c .if1 .left)))  -- returns-2

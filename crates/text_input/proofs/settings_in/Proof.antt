@@ -9,9 +9,7 @@ unfolding exerciseIn
 returns c = λ i. record { blocks = (c .before .before .before .before .number-at .ensures .0) i; ready = (c .before .before .number-at2 .ensures .0) i; readonly = (c .number-at3 .ensures .0) i }
 
 pub settings-in-spec : {M : Type 1} → statement M
-settings-in-spec =
-    tie.close
-    (tie.spec
+settings-in-spec = tie.close (tie.spec
     (search needs)  -- slice-aggregate-number-at
     (search needs)  -- number-at-requires
     (search needs)  -- slice-aggregate-number-at-2

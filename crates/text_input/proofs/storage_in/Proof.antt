@@ -13,18 +13,13 @@ bytes-of-requires c κs =
     let is = rw (← (c .before .before .line-at .ensures .2)) at (hex-is storage _ (storage-line _ (c .before .before .before .before .before .pre .0))) in
     (is .0, omega (arith, is .2, c .before .before .before .before .before .pre .1))
 
-returns : tie.Need-returns
-unfolding exerciseIn bytesOf value part
-returns c = rw (c .before .before .before .before .before .line-at .ensures .2) at (c .before .before .bytes-of .ensures)
-
 pub storage-in-spec : {M : Type 1} → statement M
-storage-in-spec =
-    tie.close
-    (tie.spec
+unfolding exerciseIn bytesOf value part
+storage-in-spec = tie.close (tie.spec
     (search needs)  -- line-at-requires
     (search needs)  -- sub-bytes-of
     (search needs)  -- part-bytes-of-start
     (search needs)  -- part-bytes-of-end
     bytes-of-requires
     (search needs)  -- same-length
-    returns)
+    (λ c. rw (c .before .before .before .before .before .line-at .ensures .2) at (c .before .before .bytes-of .ensures)))  -- returns

@@ -48,9 +48,7 @@ unfolding pick
 returns-3 c = sym (wrong-at-end (c .before .before .before .before .args .input .now) (c .before .before .loop .at) (c .before .before .loop .n) _ (c .before .before .loop .inv .2) (search needs) ∙ simp (le-ltb _ _ (c .if2 .left)))
 
 pub wrong-line-spec : {M : Type 1} → statement M
-wrong-line-spec =
-    tie.close
-    (tie.spec
+wrong-line-spec = tie.close (tie.spec
     Inv-loop
     μ-loop
     loop-holds

@@ -5,17 +5,12 @@ use borrow.Author.Needs.{needs}
 use Rattle.text_output.proofs.bytes_line.Statement.{statement}
 use Rattle.text_output.proofs.bytes_line.Tie as tie
 
-returns : tie.Need-returns
-unfolding line
-returns c = c .before .before .before .before .before .before .before .before .before .before .before .add .ensures then c .before .before .before .before .before .before .before .add-hex .ensures then c .before .before .add2 .ensures
-
 pub bytes-line-spec : {M : Type 1} → statement M
-bytes-line-spec =
-    tie.close
-    (tie.spec
+unfolding line
+bytes-line-spec = tie.close (tie.spec
     (search needs)  -- add-requires
     (search needs)  -- add-hex-requires
     (search needs)  -- slice-aggregate-add
     (search needs)  -- add-requires-2
     (search needs)  -- same-length
-    returns)
+    (λ c. c .before .before .before .before .before .before .before .before .before .before .before .add .ensures then c .before .before .before .before .before .before .before .add-hex .ensures then c .before .before .add2 .ensures))  -- returns

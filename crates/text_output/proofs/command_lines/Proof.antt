@@ -19,9 +19,6 @@ Inv-loop out₀ at answers n next₀ i₀ out next i = (i ≤ n) × (n * answerS
 abbrev μ-loop : tie.MeasureT-loop
 μ-loop out₀ at answers n next₀ i₀ out next i = n - i
 
-loop-holds : tie.Need-loop-holds Inv-loop μ-loop
-loop-holds c = (search needs, search needs, search needs, rw no-commands adds-nil)
-
 loop-again : tie.Need-loop-again Inv-loop μ-loop
 loop-again c = (search needs, search needs, search needs, rw commands-more (c .before .before .before .before .before .before .before .before .before .loop .inv .3 then c .before .before .before .before .before .before .status-lines .ensures then c .before .before .count-lines .ensures))
 
@@ -31,12 +28,10 @@ returns c =
     rw done at (c .before .loop .inv .3)
 
 pub command-lines-spec : {M : Type 1} → statement M
-command-lines-spec =
-    tie.close
-    (tie.spec
+command-lines-spec = tie.close (tie.spec
     Inv-loop
     μ-loop
-    loop-holds
+    (λ c. (search needs, search needs, search needs, rw no-commands adds-nil))  -- loop-holds
     (search needs)  -- status-lines-requires
     (search needs)  -- count-lines-requires
     (search needs)  -- add-i

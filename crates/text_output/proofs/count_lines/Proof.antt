@@ -10,9 +10,7 @@ unfolding countLines
 returns c = rw (← (c .before .before .before .before .before .before .before .before .before .before .before .before .before .before .before .before .before .before .be2 .ensures .0), ← (c .before .before .before .before .before .before .before .before .before .before .before .before .before .before .before .before .wide .ensures .0), ← (c .before .before .before .before .before .before .before .before .before .before .before .before .before .before .before .be22 .ensures .0)) (c .before .before .before .before .before .before .before .before .before .before .before .before .number-line .ensures then c .before .before .before .before .before .before .before .number-line2 .ensures then c .before .before .number-line3 .ensures)
 
 pub count-lines-spec : {M : Type 1} → statement M
-count-lines-spec =
-    tie.close
-    (tie.spec
+count-lines-spec = tie.close (tie.spec
     (search needs)  -- mul-be2
     (search needs)  -- add-be2
     (search needs)  -- be2-requires

@@ -5,17 +5,12 @@ use borrow.Author.Needs.{needs}
 use Rattle.text_output.proofs.number_line.Statement.{statement}
 use Rattle.text_output.proofs.number_line.Tie as tie
 
-returns : tie.Need-returns
-unfolding line
-returns c = c .before .before .before .before .before .before .before .before .before .before .before .add .ensures then c .before .before .before .before .before .before .before .add-decimal .ensures then c .before .before .add2 .ensures
-
 pub number-line-spec : {M : Type 1} → statement M
-number-line-spec =
-    tie.close
-    (tie.spec
+unfolding line
+number-line-spec = tie.close (tie.spec
     (search needs)  -- add-requires
     (search needs)  -- add-decimal-requires
     (search needs)  -- slice-aggregate-add
     (search needs)  -- add-requires-2
     (search needs)  -- same-length
-    returns)
+    (λ c. c .before .before .before .before .before .before .before .before .before .before .before .add .ensures then c .before .before .before .before .before .before .before .add-decimal .ensures then c .before .before .add2 .ensures))  -- returns

@@ -10,9 +10,7 @@ unfolding printoutOf
 returns c = c .before .before .before .before .before .before .before .before .before .before .before .before .before .before .before .before .before .before .before .before .before .number-line .ensures then c .before .before .before .before .before .before .before .before .before .before .before .before .before .before .before .before .number-line2 .ensures then c .before .before .before .before .before .before .before .before .before .before .before .before .command-lines .ensures then c .before .before .before .before .before .before .before .bytes-line .ensures then c .before .before .bytes-line2 .ensures
 
 pub print-spec : {M : Type 1} → statement M
-print-spec =
-    tie.close
-    (tie.spec
+print-spec = tie.close (tie.spec
     (search needs)  -- slice-aggregate-number-line
     (search needs)  -- number-line-requires
     (search needs)  -- slice-aggregate-number-line-2

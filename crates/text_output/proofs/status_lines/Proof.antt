@@ -10,9 +10,7 @@ unfolding statusLines
 returns c = c .before .before .before .before .before .before .before .before .before .before .before .before .before .before .number-line .ensures then c .before .before .before .before .before .before .before .before .bytes-line .ensures then c .before .before .bytes-line2 .ensures
 
 pub status-lines-spec : {M : Type 1} → statement M
-status-lines-spec =
-    tie.close
-    (tie.spec
+status-lines-spec = tie.close (tie.spec
     (search needs)  -- mul-t12
     (search needs)  -- shared-slice-read-t14
     (search needs)  -- mul-t12-2

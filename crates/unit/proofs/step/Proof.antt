@@ -1,5 +1,5 @@
 -- `step` meets its contract: the channel's table, then the unit's, then the command's own. Assumes nothing.
-use mathlib.Core.Path.{_≡_, sym, _∙_}
+use mathlib.Core.Path.{sym, _∙_}
 use borrow.Author.Needs.{needs}
 use Rattle.model.proofs.Steps.{channel-room}
 use Rattle.unit_state.specs.Standing.{stateOf}
@@ -17,22 +17,21 @@ seen c =
 returns : tie.Need-returns
 returns c =
     let tested = c .before in
-    let a = tested .before .before .before .before .before .args in
-    by-channel (a .d) (a .u) (a .c) (a .s) (a .main .now) (a .store .now) _ _ (tested .before .channel-cause .ensures) (tested .if1 .taken) (c .refuse .ensures)
+    let first = tested .before .before .before .before .before in
+    by-channel (first .args .main .now) (first .pre .0) (tested .before .channel-cause .ensures) (tested .if1 .taken) (c .refuse .ensures)
 
 returns-2 : tie.Need-returns-2
 returns-2 c =
     let asked = c .before .before in
     let tested = asked .before in
-    let a = tested .before .before .before .before .before .args in
-    by-ready (a .d) (a .u) (a .c) (a .s) (a .main .now) (a .store .now) _ (sym (tested .before .channel-cause .ensures) ∙ tested .if1 .left) (sym (asked .not-ready .ensures) ∙ c .before .if2 .taken) (c .refuse2 .ensures)
+    let first = tested .before .before .before .before .before in
+    by-ready (first .args .main .now) (first .pre .0) (sym (tested .before .channel-cause .ensures) ∙ tested .if1 .left) (sym (asked .not-ready .ensures) ∙ c .before .if2 .taken) (c .refuse2 .ensures)
 
 returns-3 : tie.Need-returns-3
 returns-3 c =
     let tested = c .before .before in
     let at = tested .before .before in
-    let a = at .before .before .before .before .before .before .before .args in
-    no-operation-ends (a .d) (a .u) (a .c) (a .s) (a .main .now) (a .store .now) _ (seen at) (tested .if3 .taken) (rw (c .before .passed .ensures) at (c .accept .ensures))
+    no-operation-ends _ (at .before .before .before .before .before .before .before .pre .0) (seen at) (tested .if3 .taken) (rw (c .before .passed .ensures) at (c .accept .ensures))
 
 perform-requires : tie.Need-perform-requires
 perform-requires c κs =
@@ -47,13 +46,8 @@ perform-requires c κs =
       other,
     )
 
-returns-4 : tie.Need-returns-4
-returns-4 c = c .before .before .before .before .perform .ensures
-
 pub step-spec : {M : Type 1} → statement M
-step-spec =
-    tie.close
-    (tie.spec
+step-spec = tie.close (tie.spec
     (search needs)  -- channel-cause-requires
     (search needs)  -- refuse-requires
     (search needs)  -- same-length
@@ -69,4 +63,4 @@ step-spec =
     perform-requires
     (search needs)  -- same-length-4
     (search needs)  -- same-length-5
-    returns-4)
+    (λ c. c .before .before .before .before .perform .ensures))  -- returns-4

@@ -5,8 +5,7 @@ use Rattle.command_extent.proofs.Defined.number.Statement.{statement}
 use Rattle.command_extent.proofs.Defined.number.Tie as tie
 
 pub number-spec : {M : Type 1} → statement M
-number-spec = tie.close
-    (tie.spec
+number-spec = tie.close (tie.spec
     (λ c. c .match .keys1)  -- enum-told
     (λ c. c .match .keys2)  -- enum-told-2
     (λ c. c .match .keys3)  -- enum-told-3

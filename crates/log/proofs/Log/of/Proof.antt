@@ -13,21 +13,6 @@ arrays c = record { read = search needs; written = search needs; movements = sea
 slice-read : tie.Need-slice-aggregate-put-at-2
 slice-read c = search needs
 
-slice-written : tie.Need-slice-aggregate-put-at-4
-slice-written c = search needs
-
-slice-movements : tie.Need-slice-aggregate-put-at-6
-slice-movements c = search needs
-
-put-read : tie.Need-put-at-requires
-put-read c κs = omega (arith, arrays (c .before .before .before .before .before))
-
-put-written : tie.Need-put-at-requires-2
-put-written c κs = omega (arith, arrays (c .before .before .before .before .before .before .before .before .before))
-
-put-movements : tie.Need-put-at-requires-3
-put-movements c κs = omega (arith, arrays (c .before .before .before .before .before .before .before .before .before .before .before .before .before))
-
 returns : tie.Need-returns
 returns c =
     let third = c .before in
@@ -37,18 +22,16 @@ returns c =
     λ u. log-stored u _ _ _ _ (arrays start) (first .put-at .ensures) (second .put-at2 .ensures) (third .put-at3 .ensures)
 
 pub of-spec : {M : Type 1} → statement M
-of-spec =
-    tie.close
-    (tie.spec
+of-spec = tie.close (tie.spec
     (search needs)  -- array-write-log
     (search needs)  -- array-write-log-2
     (search needs)  -- slice-aggregate-put-at
     slice-read
-    put-read
+    (λ c κs. omega (arith, arrays (c .before .before .before .before .before)))  -- put-read
     (search needs)  -- slice-aggregate-put-at-3
-    slice-written
-    put-written
+    (λ c. search needs)  -- slice-written
+    (λ c κs. omega (arith, arrays (c .before .before .before .before .before .before .before .before .before)))  -- put-written
     (search needs)  -- slice-aggregate-put-at-5
-    slice-movements
-    put-movements
+    (λ c. search needs)  -- slice-movements
+    (λ c κs. omega (arith, arrays (c .before .before .before .before .before .before .before .before .before .before .before .before .before)))  -- put-movements
     returns)

@@ -4,18 +4,10 @@ use borrow.Author.Needs.{needs}
 use Rattle.vectors.proofs.play.shows.Statement.{statement}
 use Rattle.vectors.proofs.play.shows.Tie as tie
 
-abbrev Inv-loop : tie.InvT-loop
-Inv-loop table unit storage store answers from n k₀ t10 k = k ≤ n
-
-abbrev μ-loop : tie.MeasureT-loop
-μ-loop table unit storage store answers from n k₀ t10 k = n - k
-
 pub shows-spec : {M : Type 1} → statement M
-shows-spec =
-    tie.close
-    (tie.spec
-    Inv-loop
-    μ-loop
+shows-spec = tie.close (tie.spec
+    (λ table unit storage store answers from n k₀ t10 k. k ≤ n)  -- Inv-loop
+    (λ table unit storage store answers from n k₀ t10 k. n - k)  -- μ-loop
     (search needs)  -- loop-holds
     (search needs)  -- word-requires
     (search needs)  -- shown-requires

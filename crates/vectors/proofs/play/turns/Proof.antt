@@ -14,9 +14,7 @@ abbrev μ-loop : tie.MeasureT-loop
 μ-loop group table chain₀ storage₀ store₀ answers₀ unit₀ at₀ number₀ chain storage store answers unit at number = length table - at
 
 pub turns-spec : {M : Type 1} → statement M
-turns-spec =
-    tie.close
-    (tie.spec
+turns-spec = tie.close (tie.spec
     Inv-loop
     μ-loop
     (search needs)  -- fresh-requires

@@ -4,18 +4,10 @@ use borrow.Author.Needs.{needs}
 use Rattle.vectors.proofs.show.answers.Statement.{statement}
 use Rattle.vectors.proofs.show.answers.Tie as tie
 
-abbrev Inv-loop : tie.InvT-loop
-Inv-loop s reached i₀ i = i ≤ reached
-
-abbrev μ-loop : tie.MeasureT-loop
-μ-loop s reached i₀ i = reached - i
-
 pub answers-spec : {M : Type 1} → statement M
-answers-spec =
-    tie.close
-    (tie.spec
-    Inv-loop
-    μ-loop
+answers-spec = tie.close (tie.spec
+    (λ s reached i₀ i. i ≤ reached)  -- Inv-loop
+    (λ s reached i₀ i. reached - i)  -- μ-loop
     (search needs)  -- loop-holds
     (search needs)  -- cast-answer
     (search needs)  -- mul-answer

@@ -6,21 +6,10 @@ use borrow.Author.Needs.{needs}
 use Rattle.vectors.proofs.words.put.Statement.{statement}
 use Rattle.vectors.proofs.words.put.Tie as tie
 
-abbrev Inv-loop : tie.InvT-loop
-Inv-loop s₀ table from n i₀ s i = (i ≤ length s₀) × (length s ≡ length s₀)
-
-abbrev μ-loop : tie.MeasureT-loop
-μ-loop s₀ table from n i₀ s i = length s₀ - i
-
-loop-again : tie.Need-loop-again Inv-loop μ-loop
-loop-again c = search needs
-
 pub put-spec : {M : Type 1} → statement M
-put-spec =
-    tie.close
-    (tie.spec
-    Inv-loop
-    μ-loop
+put-spec = tie.close (tie.spec
+    (λ s₀ table from n i₀ s i. (i ≤ length s₀) × (length s ≡ length s₀))  -- Inv-loop
+    (λ s₀ table from n i₀ s i. length s₀ - i)  -- μ-loop
     (search needs)  -- loop-holds
     (search needs)  -- same-length
     (search needs)  -- returns
@@ -29,6 +18,6 @@ put-spec =
     (search needs)  -- slice-write-s
     (search needs)  -- add-i
     (search needs)  -- loop-less
-    loop-again
+    (λ c. search needs)  -- loop-again
     (search needs)  -- same-length-2
     (search needs))  -- returns-2

@@ -4,15 +4,11 @@ use borrow.Author.Needs.{needs}
 use Rattle.model.proofs.extent.Extent.address.Statement.{statement}
 use Rattle.model.proofs.extent.Extent.address.Tie as tie
 
-returns : tie.Need-returns
-unfolding address
-returns c = search needs
-
 pub address-spec : {M : Type 1} → statement M
-address-spec = tie.close
-    (tie.spec
+unfolding address
+address-spec = tie.close (tie.spec
     (search needs)  -- sub-within
     (search needs)  -- cast-result
     (search needs)  -- cast-result-2
     (search needs)  -- add-result
-    returns)
+    (λ c. search needs))  -- returns
