@@ -4,6 +4,7 @@ use crate::run::Walked;
 use crate::run::run_chain;
 use model::device::Device;
 use model::record::Record;
+use model::sizes;
 use record::record_left;
 use unit_state::start;
 ghost use mathlib.Core.Path.{_≡_};
@@ -12,13 +13,10 @@ ghost use Rattle.model.specs.Causes.{callCauses};
 ghost use Rattle.model.specs.Chain.{called, call, classA};
 ghost use Rattle.chain.specs.Walk.{systemLeft, leftCall, calledWith};
 
-// Class A: the bytes of a block.
-const BLOCK_SIZE: usize = 512;
-
 fn class_a() -> Device
     ensures { λ r. ⌜ r ≡ classA ⌝ }
 {
-    Device { block: BLOCK_SIZE }
+    Device { block: sizes::BLOCK }
 }
 
 // The cause that refuses a call, or 0.

@@ -5,13 +5,15 @@ ghost use Prim.Native.Nat.{_/_, _%_, _≤_};
 ghost use lib.Dec.{ltb, eqb};
 ghost use lib.ListN.{length};
 ghost use Rattle.model.specs.Rules.{firstOf};
+ghost use Rattle.model.specs.Lent.{ccwSize};
 ghost use Rattle.model.specs.Causes.{allChained, callCauses};
 use channel::ccw::ccw_at;
 use model::device::Device;
+use model::sizes;
 
 // No CCW, more than 32, or a part of one.
 fn chain_wrong(len: usize) -> bool
-    ensures { λ r. ⌜ r ≡ (eqb len 0 || ltb 256 len || not (eqb (len % 8) 0)) ⌝ }
+    ensures { λ r. ⌜ r ≡ (eqb len 0 || ltb 256 len || not (eqb (len % ccwSize) 0)) ⌝ }
 {
     if len == 0 {
         return true;
@@ -19,7 +21,7 @@ fn chain_wrong(len: usize) -> bool
     if 256 < len {
         return true;
     }
-    len % 8 != 0
+    len % sizes::CCW != 0
 }
 
 // No block, a part of one, or more than 131,072.
@@ -38,9 +40,9 @@ fn store_wrong(size: usize, len: usize) -> bool
 
 // Each CCW has flag 40, so no CCW is the chain's last.
 fn all_chained(chain: &[u8]) -> bool
-    ensures { λ r. ⌜ r ≡ allChained (now (chain .entry)) (length (now (chain .entry)) / 8) ⌝ }
+    ensures { λ r. ⌜ r ≡ allChained (now (chain .entry)) (length (now (chain .entry)) / ccwSize) ⌝ }
 {
-    let n = chain.len() / 8;
+    let n = chain.len() / sizes::CCW;
     let mut i = 0;
     while i < n {
         let c = ccw_at(chain, i);

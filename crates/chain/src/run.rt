@@ -4,6 +4,7 @@ use endings::Answer;
 use model::ccw::Ccw;
 use model::device::Device;
 use model::record::Record;
+use model::sizes;
 use model::status::Channel;
 use slices::put_at;
 use unit::step;
@@ -23,11 +24,6 @@ ghost use Rattle.unit_state.specs.Standing.{Sound};
 ghost use Rattle.endings.specs.Ending.{answerBytes, marked};
 ghost use Rattle.chain.specs.Walk.{systemOf, systemLeft, leftAt, runOf, leftBy};
 
-// The bytes of a CCW, and of an answer.
-const CCW_SIZE: usize = 8;
-
-const ANSWER_SIZE: usize = 8;
-
 // A wrong length is the channel's to mark, in its status.
 fn mark(answers: &mut [u8], at: usize, wrong: bool)
     requires { ⌜ at < length (now answers) ⌝ }
@@ -43,7 +39,7 @@ fn put_answer(answers: &mut [u8], i: usize, a: Answer, wrong: bool)
     requires { ⌜ i * answerSize + answerSize ≤ length (now answers) ⌝ }
     ensures { λ _. ⌜ now (answers .exit) ≡ put (now (answers .entry)) (i * answerSize) (marked wrong (answerBytes a)) ⌝ }
 {
-    let at = i * ANSWER_SIZE;
+    let at = i * sizes::ANSWER;
     let front = numbers::bytes4(a.front);
     let back = numbers::bytes4(a.back);
     put_at(answers, at, &front, 4);
@@ -100,10 +96,10 @@ fn one_turn(
     }
 }
 
-// How a run leaves the unit, and the commands reached.
+// The commands reached, and how the run leaves the unit.
 pub struct Walked {
-    pub left: Left,
     pub reached: usize,
+    pub left: Left,
 }
 
 pub fn run_chain(
@@ -121,7 +117,7 @@ pub fn run_chain(
     ensures left { λ r. ⌜ r .left
         ≡ leftBy d (now (chain .entry)) s (systemOf u s (now (main .entry)) (now (store .entry)) (now (answers .entry)) 0) ⌝ }
 {
-    let n = chain.len() / CCW_SIZE;
+    let n = chain.len() / sizes::CCW;
     let mut state = s;
     let mut i = 0;
     while i < n {

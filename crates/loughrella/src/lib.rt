@@ -2,7 +2,7 @@
 // requires: any slices get the result, and are left with the bytes, that the definition says.
 use chain::call::cause_of;
 use chain::call::run_allowed;
-use record::RECORD_SIZE;
+use model::sizes;
 use record::new_record;
 use record::pack;
 use record::pack_left;
@@ -26,7 +26,7 @@ pub extern "C" fn loughrella_run(
     if cause != 0 {
         return cause as u32 * 256;
     }
-    if unit.len() != RECORD_SIZE {
+    if unit.len() != sizes::RECORD {
         return 6 * 256;
     }
     let ran = run_allowed(unpack(unit), chain, storage, store, answers);
@@ -40,7 +40,7 @@ pub extern "C" fn loughrella_run(
 pub extern "C" fn loughrella_record(unit: &mut [u8], ready: u8, read_only: u8) -> u32
     ensures { λ r. ⌜ record { result = r; unit = now (unit .exit) } ≡ setUp (now (unit .entry)) ready «read_only» ⌝ }
 {
-    if unit.len() != RECORD_SIZE {
+    if unit.len() != sizes::RECORD {
         return 6 * 256;
     }
     pack(new_record(ready, read_only), unit);

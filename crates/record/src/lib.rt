@@ -12,7 +12,7 @@ ghost use mathlib.Core.Bool.{true};
 ghost use Prim.Native.Nat.{_+_, _≤_};
 ghost use lib.ListN.{length};
 ghost use Rattle.slices.specs.Parts.{part};
-ghost use Rattle.model.specs.Lent.{recordBytes, recordOf, newRecord};
+ghost use Rattle.model.specs.Lent.{recordSize, recordBytes, recordOf, newRecord};
 ghost use Rattle.model.specs.Log.{withCounts};
 ghost use Rattle.unit_state.specs.Standing.{stateLeft};
 
@@ -26,8 +26,6 @@ const MOVEMENTS: usize = 30;
 const READY: usize = 32;
 
 const READ_ONLY: usize = 33;
-
-pub const RECORD_SIZE: usize = 34;
 
 // The 2 bytes from `at` on.
 fn two(s: &[u8], at: usize) -> [u8; 2]
@@ -47,7 +45,7 @@ fn three(s: &[u8], at: usize) -> [u8; 3]
 
 // The record that 34 bytes hold.
 pub fn unpack(s: &[u8]) -> Record
-    requires { ⌜ length (now s) ≡ 34 ⌝ }
+    requires { ⌜ length (now s) ≡ recordSize ⌝ }
     ensures { λ r. ⌜ r ≡ recordOf (now (s .entry)) ⌝ }
 {
     let mut sense = [0u8; 24];
@@ -64,7 +62,7 @@ pub fn unpack(s: &[u8]) -> Record
 
 // The counts of the record in the 34 bytes of `to` become these.
 fn put_counts(read: [u8; 3], written: [u8; 3], movements: [u8; 2], to: &mut [u8])
-    requires { ⌜ length (now to) ≡ 34 ⌝ }
+    requires { ⌜ length (now to) ≡ recordSize ⌝ }
     ensures { λ _. ⌜ now (to .exit) ≡ recordBytes (withCounts (recordOf (now (to .entry))) read written movements) ⌝ }
 {
     put_at(to, BLOCKS_READ, &read, 3);
@@ -74,7 +72,7 @@ fn put_counts(read: [u8; 3], written: [u8; 3], movements: [u8; 2], to: &mut [u8]
 
 // The record goes to the 34 bytes of `to`.
 pub fn pack(u: Record, to: &mut [u8])
-    requires { ⌜ length (now to) ≡ 34 ⌝ }
+    requires { ⌜ length (now to) ≡ recordSize ⌝ }
     ensures { λ _. ⌜ now (to .exit) ≡ recordBytes u ⌝ }
 {
     let sense = u.sense;
@@ -108,7 +106,7 @@ fn put_sense(l: Left, to: &mut [u8])
 
 // What a chain leaves goes to the 34 bytes of the record that it found. Only what can have changed is written.
 pub fn pack_left(l: Left, to: &mut [u8])
-    requires { ⌜ length (now to) ≡ 34 ⌝ }
+    requires { ⌜ length (now to) ≡ recordSize ⌝ }
     ensures { λ _. ⌜ now (to .exit) ≡ recordBytes (stateLeft (recordOf (now (to .entry))) l .unit) ⌝ }
 {
     let read = l.state.counts.blocks_read;
