@@ -16,7 +16,9 @@ ghost use Rattle.chain.specs.Walk.{systemLeft, leftCall, calledWith};
 fn class_a() -> Device
     ensures { λ r. ⌜ r ≡ classA ⌝ }
 {
-    Device { block: sizes::BLOCK }
+    Device {
+        block: sizes::BLOCK,
+    }
 }
 
 // The cause that refuses a call, or 0.
