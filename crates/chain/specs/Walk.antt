@@ -26,7 +26,7 @@ use Rattle.unit_state.specs.declared.Running.{Running}
 use Rattle.unit_state.specs.declared.Left.{Left}
 use Rattle.unit_state.specs.Standing.{started, stateOf, stateLeft}
 use Rattle.endings.specs.Ending.{shown}
-use Rattle.chain.specs.declared.call.Called.{Called}
+use Rattle.chain.specs.declared.call.Returned.{Returned}
 
 abbrev pub carriedOf : Bool → State → Running
 carriedOf kept s = record {
@@ -70,5 +70,5 @@ module _ (u : Record) where
 abbrev pub leftCall : List ℕ → List ℕ → List ℕ → Record → List ℕ → Left
 leftCall chain main store u answers = leftBy classA chain (started u) (system (start u) main store answers 0)
 
-abbrev pub calledWith : Called → List ℕ → List ℕ → List ℕ → definition.Called
+abbrev pub calledWith : Returned → List ℕ → List ℕ → List ℕ → definition.Called
 calledWith r main store answers = record { cause = r .cause; reached = r .reached; unit = r .unit; main = main; store = store; answers = answers }

@@ -46,7 +46,7 @@ pub fn run_allowed(
 }
 
 // What a call gives by value.
-pub struct Called {
+pub struct Returned {
     pub cause: u8,
     pub reached: usize,
     pub unit: Record,
@@ -58,13 +58,13 @@ pub fn call(
     main: &mut [u8],
     store: &mut [u8],
     answers: &mut [u8],
-) -> Called
+) -> Returned
     ensures { λ r. ⌜ calledWith r (now (main .exit)) (now (store .exit)) (now (answers .exit))
         ≡ call (now (chain .entry)) (now (main .entry)) (now (store .entry)) u (now (answers .entry)) ⌝ }
 {
     let cause = cause_of(chain, main, store, answers);
     if cause != 0 {
-        return Called {
+        return Returned {
             cause: cause,
             reached: 0,
             unit: u,
@@ -72,7 +72,7 @@ pub fn call(
     }
     let walked = run_allowed(u, chain, main, store, answers);
     let l = walked.left;
-    Called {
+    Returned {
         cause: 0,
         reached: walked.reached,
         unit: record_left(u, l),

@@ -6,7 +6,7 @@
 --     status-unique, channel-unique     a status that is known by its byte
 --     log-unique                        a log that is known by its bytes
 --     walked-unique, allowed-unique     the run of a chain, and of one that no cause refuses
---     after-unique, made-unique         the run, by value and in place
+--     by-value-unique, in-place-unique         the run, by value and in place
 -- docs/PROOFS.md lists which function has which form. Assumes nothing.
 use Prim.Native.Nat.{ℕ}
 use mathlib.Core.Path.{_≡_, refl, sym, ap, _∙_}
@@ -39,7 +39,7 @@ use Rattle.chain.specs.Walk.{systemLeft}
 use Rattle.chain.proofs.Runs.{left-known}
 use Rattle.model.specs.Lent.{newRecord}
 use Rattle.in_place.specs.declared.Ran.{Ran}
-use Rattle.in_place.specs.Run.{After, Made}
+use Rattle.in_place.specs.Run.{ByValue, InPlace}
 
 pub same-by : {A : Type 0} (x y z : A) → x ≡ z → y ≡ z → x ≡ y
 same-by x y z p q = p ∙ sym q
@@ -144,9 +144,9 @@ pub record SameRun (v w : Ran) (storage storage′ store store′ answers answer
   pub store-same : store ≡ store′
   pub answers-same : answers ≡ answers′
 
-pub after-unique : (r : Record) (chain m s a : List ℕ) (v w : Ran) (m₁ s₁ a₁ m₂ s₂ a₂ : List ℕ)
-    → After r chain m s a v m₁ s₁ a₁ → After r chain m s a w m₂ s₂ a₂ → SameRun v w m₁ m₂ s₁ s₂ a₁ a₂
-after-unique r chain m s a v w m₁ s₁ a₁ m₂ s₂ a₂ p q =
+pub by-value-unique : (r : Record) (chain m s a : List ℕ) (v w : Ran) (m₁ s₁ a₁ m₂ s₂ a₂ : List ℕ)
+    → ByValue r chain m s a v m₁ s₁ a₁ → ByValue r chain m s a w m₂ s₂ a₂ → SameRun v w m₁ m₂ s₁ s₂ a₁ a₂
+by-value-unique r chain m s a v w m₁ s₁ a₁ m₂ s₂ a₂ p q =
     let e = p .is ∙ sym (q .is) in
     record {
       unit-same = λ i. e i .unit;
@@ -156,7 +156,7 @@ after-unique r chain m s a v w m₁ s₁ a₁ m₂ s₂ a₂ p q =
       answers-same = λ i. e i .answers;
     }
 
-pub made-unique : (r : Record) (chain m s a : List ℕ) (c d : ℕ) (u v : Record) (m₁ s₁ a₁ m₂ s₂ a₂ : List ℕ)
-    → Made r chain m s a c u m₁ s₁ a₁ → Made r chain m s a d v m₂ s₂ a₂ → SameRun (record { unit = u; code = c }) (record { unit = v; code = d }) m₁ m₂ s₁ s₂ a₁ a₂
-made-unique r chain m s a c d u v m₁ s₁ a₁ m₂ s₂ a₂ p q =
-    after-unique r chain m s a (record { unit = u; code = c }) (record { unit = v; code = d }) m₁ s₁ a₁ m₂ s₂ a₂ (record { is = p .is }) (record { is = q .is })
+pub in-place-unique : (r : Record) (chain m s a : List ℕ) (c d : ℕ) (u v : Record) (m₁ s₁ a₁ m₂ s₂ a₂ : List ℕ)
+    → InPlace r chain m s a c u m₁ s₁ a₁ → InPlace r chain m s a d v m₂ s₂ a₂ → SameRun (record { unit = u; code = c }) (record { unit = v; code = d }) m₁ m₂ s₁ s₂ a₁ a₂
+in-place-unique r chain m s a c d u v m₁ s₁ a₁ m₂ s₂ a₂ p q =
+    by-value-unique r chain m s a (record { unit = u; code = c }) (record { unit = v; code = d }) m₁ s₁ a₁ m₂ s₂ a₂ (record { is = p .is }) (record { is = q .is })

@@ -1,7 +1,7 @@
 -- What a run does, as one equation: the record, the result, and each lent slice afterwards.
 --     Outcome, outcome   all of it, by the definition's call
---     After              the run by value gives the outcome
---     Made               so does the run in place, with the record as it then is
+--     ByValue            the run by value gives the outcome
+--     InPlace            so does the run in place, with the record as it then is
 -- Assumes nothing.
 use Prim.Native.Nat.{ℕ}
 use mathlib.Core.Path.{_≡_}
@@ -24,8 +24,8 @@ given c = record { unit = c .unit; code = resultOf (c .cause) (c .reached); stor
 unfoldable pub outcome : Record → List ℕ → List ℕ → List ℕ → List ℕ → Outcome
 outcome r chain storage store answers = given (call chain storage store r answers)
 
-pub record After (r : Record) (chain storage store answers : List ℕ) (w : Ran) (storage′ store′ answers′ : List ℕ) : Type 0 where
+pub record ByValue (r : Record) (chain storage store answers : List ℕ) (w : Ran) (storage′ store′ answers′ : List ℕ) : Type 0 where
   pub is : record { unit = w .unit; code = w .code; storage = storage′; store = store′; answers = answers′ } ≡ outcome r chain storage store answers
 
-pub record Made (r : Record) (chain storage store answers : List ℕ) (c : ℕ) (r′ : Record) (storage′ store′ answers′ : List ℕ) : Type 0 where
+pub record InPlace (r : Record) (chain storage store answers : List ℕ) (c : ℕ) (r′ : Record) (storage′ store′ answers′ : List ℕ) : Type 0 where
   pub is : record { unit = r′; code = c; storage = storage′; store = store′; answers = answers′ } ≡ outcome r chain storage store answers

@@ -5,7 +5,7 @@ use model::record::Record;
 ghost use mathlib.Core.Path.{_≡_};
 ghost use Prim.Native.Nat.{_≤_};
 ghost use Rattle.model.specs.Host.{resultOf};
-ghost use Rattle.in_place.specs.Run.{Made, After};
+ghost use Rattle.in_place.specs.Run.{InPlace, ByValue};
 
 // What a run gives back by value.
 pub struct Ran {
@@ -29,7 +29,7 @@ pub fn run_core(
     store: &mut [u8],
     answers: &mut [u8],
 ) -> Ran
-    ensures { λ w. ⌜ After r (now (chain .entry)) (now (storage .entry)) (now (store .entry)) (now (answers .entry))
+    ensures { λ w. ⌜ ByValue r (now (chain .entry)) (now (storage .entry)) (now (store .entry)) (now (answers .entry))
         w (now (storage .exit)) (now (store .exit)) (now (answers .exit)) ⌝ }
 {
     let called = call(r, chain, storage, store, answers);
@@ -48,7 +48,7 @@ pub fn run(
     store: &mut [u8],
     answers: &mut [u8],
 ) -> u32
-    ensures { λ c. ⌜ Made (now (u .entry)) (now (chain .entry)) (now (storage .entry)) (now (store .entry)) (now (answers .entry))
+    ensures { λ c. ⌜ InPlace (now (u .entry)) (now (chain .entry)) (now (storage .entry)) (now (store .entry)) (now (answers .entry))
         c (now (u .exit)) (now (storage .exit)) (now (store .exit)) (now (answers .exit)) ⌝ }
 {
     let ran = run_core(*u, chain, storage, store, answers);
@@ -64,7 +64,7 @@ pub fn run_lending(
     store: &mut [u8],
     answers: &mut [u8],
 ) -> Ran
-    ensures { λ w. ⌜ After r (now (chain .entry)) (now (storage .entry)) (now (store .entry)) (now (answers .entry))
+    ensures { λ w. ⌜ ByValue r (now (chain .entry)) (now (storage .entry)) (now (store .entry)) (now (answers .entry))
         w (now (storage .exit)) (now (store .exit)) (now (answers .exit)) ⌝ }
 {
     let mut t = r;

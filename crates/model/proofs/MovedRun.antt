@@ -170,12 +170,8 @@ module _ (dev : Device) (chain : List ℕ) (d : ℕ) (main main′ store store�
       rw (← w) (record {
         cause = refl;
         reached = z .reached;
-        answers = z .answers;
         unit = z .states .unit;
-        storage = z .mains .but;
-        blocks = z .stores .same;
-        outside = z .stores .kept;
-        outside′ = z .stores .kept′;
+        lent = record { answers = z .answers; storage = z .mains .but; blocks = z .stores .same; outside = z .stores .kept; outside′ = z .stores .kept′ };
       })
 
   -- and so it can where C calls
@@ -190,22 +186,14 @@ module _ (dev : Device) (chain : List ℕ) (d : ℕ) (main main′ store store�
           let l = eqb-true _ _ e in
           rw (host-is-call dev chain main store unit answers l, host-is-call dev chain main′ store′ unit answers l) (record {
             result = rw (s .cause, s .reached);
-            answers = s .answers;
             unit = ap recordBytes (s .unit);
-            storage = s .storage;
-            blocks = s .blocks;
-            outside = s .outside;
-            outside′ = s .outside′;
+            lent = s .lent;
           })
       go false e =
           let w = ap firstOf (causes-same answers) in
           let n = eqb-false _ _ e in
           rw (host-no-record dev chain main store unit answers _ n w, host-no-record dev chain main′ store′ unit answers _ n refl) (record {
             result = refl;
-            answers = refl;
             unit = refl;
-            storage = h .typed;
-            blocks = h .blocks;
-            outside = λ _ _. refl;
-            outside′ = λ _ _. refl;
+            lent = record { answers = refl; storage = h .typed; blocks = h .blocks; outside = λ _ _. refl; outside′ = λ _ _. refl };
           })

@@ -3,6 +3,7 @@
 --     OneExtent, ParametersAlone, SameButOffset, HasRoom, SameData
 --                            the sentences of the demand, one each
 --     Moved                  all of them
+--     SameLent               what was lent ends alike
 --     SameAfter, SameHosted  what they come to, and the same of two calls from C
 -- Both calls have the chain, the unit record and the answers. That `Moved` gives `SameAfter` is `moved-same` in
 -- `proofs/MovedRun.antt`. Two sentences of the demand are not asked for: that the sixteen bytes lie in main storage, and
@@ -82,22 +83,22 @@ pub record Moved (dev : Device) (chain : List ℕ) (d : ℕ) (main main′ store
   pub room′ : HasRoom dev (extentAt (ccwAt chain d) main′) store′
   pub blocks : SameData dev (extentAt (ccwAt chain d) main) (extentAt (ccwAt chain d) main′) store store′
 
+-- what was lent ends alike: main storage, store and answers after each of the two, beside what they were
+pub record SameLent (dev : Device) (chain : List ℕ) (d : ℕ) (main main′ store store′ m m′ x x′ a a′ : List ℕ) : Type 0 where
+  pub answers : a ≡ a′
+  pub storage : SameButOffset (ccwAt chain d) m m′
+  pub blocks : SameData dev (extentAt (ccwAt chain d) main) (extentAt (ccwAt chain d) main′) x x′
+  pub outside : KeptOutside dev (extentAt (ccwAt chain d) main) store x
+  pub outside′ : KeptOutside dev (extentAt (ccwAt chain d) main′) store′ x′
+
 -- r and r′ are what the two calls gave
 pub record SameAfter (dev : Device) (chain : List ℕ) (d : ℕ) (main main′ store store′ : List ℕ) (r r′ : Called) : Type 0 where
   pub cause : r .cause ≡ r′ .cause
   pub reached : r .reached ≡ r′ .reached
-  pub answers : r .answers ≡ r′ .answers
   pub unit : r .unit ≡ r′ .unit
-  pub storage : SameButOffset (ccwAt chain d) (r .main) (r′ .main)
-  pub blocks : SameData dev (extentAt (ccwAt chain d) main) (extentAt (ccwAt chain d) main′) (r .store) (r′ .store)
-  pub outside : KeptOutside dev (extentAt (ccwAt chain d) main) store (r .store)
-  pub outside′ : KeptOutside dev (extentAt (ccwAt chain d) main′) store′ (r′ .store)
+  pub lent : SameLent dev chain d main main′ store store′ (r .main) (r′ .main) (r .store) (r′ .store) (r .answers) (r′ .answers)
 
 pub record SameHosted (dev : Device) (chain : List ℕ) (d : ℕ) (main main′ store store′ : List ℕ) (r r′ : Hosted) : Type 0 where
   pub result : r .result ≡ r′ .result
-  pub answers : r .answers ≡ r′ .answers
   pub unit : r .unit ≡ r′ .unit
-  pub storage : SameButOffset (ccwAt chain d) (r .main) (r′ .main)
-  pub blocks : SameData dev (extentAt (ccwAt chain d) main) (extentAt (ccwAt chain d) main′) (r .store) (r′ .store)
-  pub outside : KeptOutside dev (extentAt (ccwAt chain d) main) store (r .store)
-  pub outside′ : KeptOutside dev (extentAt (ccwAt chain d) main′) store′ (r′ .store)
+  pub lent : SameLent dev chain d main main′ store store′ (r .main) (r′ .main) (r .store) (r′ .store) (r .answers) (r′ .answers)

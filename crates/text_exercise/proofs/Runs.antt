@@ -18,11 +18,11 @@ use Rattle.text_input.specs.declared.Settings.{Settings}
 use Rattle.text_input.specs.Reads.{ReadTo}
 use Rattle.text_exercise.specs.Exercise.{device, exercised}
 use Rattle.in_place.specs.declared.Ran.{Ran}
-use Rattle.in_place.specs.Run.{Outcome, outcome, After}
+use Rattle.in_place.specs.Run.{Outcome, outcome, ByValue}
 use Rattle.in_place.proofs.Reached.{reached-few}
 use Rattle.text_output.specs.Printout.{printoutOf, printout}
 
-module _ {u : Record} {chain main store answers : List ℕ} {w : Ran} {main′ store′ answers′ : List ℕ} (a : After u chain main store answers w main′ store′ answers′) where
+module _ {u : Record} {chain main store answers : List ℕ} {w : Ran} {main′ store′ answers′ : List ℕ} (a : ByValue u chain main store answers w main′ store′ answers′) where
   code-is : w .code ≡ resultOf (call chain main store u answers .cause) (call chain main store u answers .reached)
   unfolding outcome
   code-is = ap (λ (o : Outcome). o .code) (a .is)

@@ -22,7 +22,7 @@ use Rattle.model.proofs.Lengths.{call-lengths}
 use Rattle.in_place.proofs.Reached.{reached-few}
 use Rattle.text_digits.specs.Digits.{sixDigits}
 use Rattle.text_output.specs.Printout.{printout}
-use Rattle.text_output.proofs.Sizes.{mostPrinted, printout-within, refusal-within}
+use Rattle.text_output.proofs.Sizes.{mostPrinted, printout-within, refused-within}
 use Rattle.text_input.specs.Format.{lines, wrongLine, Exercise, exerciseIn}
 use Rattle.text_input.proofs.Sizes.{wrong-few, settings-few, storage-bytes, storage-few, chain-bytes}
 use Rattle.text_input.proofs.Rights.{few-blocks}
@@ -69,4 +69,4 @@ exercised-length input e =
 pub printout-fits : (input : List ℕ) → length (exercise input) ≤ mostPrinted
 unfolding exercise
 printout-fits input =
-    pick-ind (λ (l : List ℕ). length l ≤ mostPrinted) (eqb (wrongLine input) 0) _ _ (λ e. exercised-length input (eqb-true _ _ e)) (λ _. omega (arith, refusal-within (wrongLine input) (omega (arith, wrong-few input))))
+    pick-ind (λ (l : List ℕ). length l ≤ mostPrinted) (eqb (wrongLine input) 0) _ _ (λ e. exercised-length input (eqb-true _ _ e)) (λ _. omega (arith, refused-within (wrongLine input) (omega (arith, wrong-few input))))

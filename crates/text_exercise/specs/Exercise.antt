@@ -12,7 +12,7 @@ use Rattle.numbers.specs.Choice.{_=?_, pick}
 use Rattle.model.specs.Lent.{newRecord}
 use Rattle.model.specs.Chain.{Called, call, classA}
 use Rattle.text_input.specs.Format.{mostBlocks, lines, wrongLine, Exercise, exerciseIn}
-use Rattle.text_output.specs.Printout.{refusal, printout}
+use Rattle.text_output.specs.Printout.{refusedLine, printout}
 
 unfoldable pub device : ℕ → List ℕ
 device zero = []
@@ -29,4 +29,4 @@ exercised e =
 unfoldable pub exercise : List ℕ → List ℕ
 exercise input =
     let wrong = wrongLine input in
-    pick (wrong =? 0) (printout (exercised (exerciseIn (lines input)))) (refusal wrong)
+    pick (wrong =? 0) (printout (exercised (exerciseIn (lines input)))) (refusedLine wrong)

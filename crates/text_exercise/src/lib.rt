@@ -113,7 +113,7 @@ pub fn exercise(input: &[u8], output: &mut [u8]) -> usize
 {
     let wrong = wrong_line(input);
     if wrong != 0 {
-        return text_output::refuse(output, wrong);
+        return text_output::print_refused(output, wrong);
     }
     let mut chain = [0u8; MOST_CHAIN];
     let mut main = [0u8; MOST_STORAGE];

@@ -12,7 +12,7 @@ use Rattle.numbers.proofs.Bytes.{byte-at}
 use Rattle.model.specs.Answer.{answerSize}
 use Rattle.text_digits.specs.Digits.{ascii, decimal, sixDigits, hex}
 use Rattle.text_digits.proofs.Numbers.{decimal-short}
-use Rattle.text_output.specs.Printout.{line, refusal, statusLines, countLines, commandLines, printoutOf}
+use Rattle.text_output.specs.Printout.{line, refusedLine, statusLines, countLines, commandLines, printoutOf}
 
 pub record Within (text : List ℕ) (n : ℕ) : Type 0 where
   pub is : length text ≤ n
@@ -77,5 +77,5 @@ printout-within cause reached answers main sense c r b m s =
     in
     omega (arith, whole .is, r)
 
-pub refusal-within : (n : ℕ) → n < sixDigits → length (refusal n) ≤ 14
-refusal-within n h = number-within (ascii "refused=") n h .is
+pub refused-within : (n : ℕ) → n < sixDigits → length (refusedLine n) ≤ 14
+refused-within n h = number-within (ascii "refused=") n h .is

@@ -1,6 +1,6 @@
 -- What is printed (01, Each side of the lines: "Output, whole").
 --     line           a key, its value and a line feed
---     refusal        of an input with a wrong line: that line's number, and nothing else
+--     refusedLine    of an input with a wrong line: that line's number, and nothing else
 --     statusLines    of a command: "its number, both statuses (hex)"
 --     countLines     of a command: "residual, cause, blocks moved"
 --     commandLines   of each command reached, in order; an output line more for each command has its place in one of the two above
@@ -20,8 +20,8 @@ lineFeed = 0x0A
 unfoldable pub line : List ℕ → List ℕ → List ℕ
 line key value = key ++ value ++ (lineFeed ∷ [])
 
-abbrev pub refusal : ℕ → List ℕ
-refusal n = line (ascii "refused=") (decimal n)
+abbrev pub refusedLine : ℕ → List ℕ
+refusedLine n = line (ascii "refused=") (decimal n)
 
 -- the answers hold unit status, channel status, residual count (2), cause, zero, blocks moved (2) of each command
 

@@ -1,4 +1,4 @@
-// What is printed of a call (`print`), and of an input with a wrong line (`refuse`). A line goes to the output as far as it fits.
+// What is printed of a call (`print`), and of an input with a wrong line (`print_refused`). A line goes to the output as far as it fits.
 use model::sizes;
 use text_digits::add;
 use text_digits::add_decimal;
@@ -8,7 +8,7 @@ ghost use lib.ListN.{length};
 ghost use Rattle.model.specs.Answer.{answerSize};
 ghost use Rattle.text_digits.specs.Digits.{decimal, hex};
 ghost use Rattle.text_digits.specs.Output.{Adds, mostAtOnce};
-ghost use Rattle.text_output.specs.Printout.{line, refusal, statusLines, countLines, commandLines, printoutOf};
+ghost use Rattle.text_output.specs.Printout.{line, refusedLine, statusLines, countLines, commandLines, printoutOf};
 
 // A line with a number.
 fn number_line(out: &mut [u8], at: usize, key: &[u8], n: usize) -> usize
@@ -88,8 +88,8 @@ pub fn print(
 }
 
 // The number of a wrong line. It returns how many bytes were written.
-pub fn refuse(out: &mut [u8], n: usize) -> usize
-    ensures { λ r. ⌜ Adds (now (out .entry)) 0 (refusal n) r (now (out .exit)) ⌝ }
+pub fn print_refused(out: &mut [u8], n: usize) -> usize
+    ensures { λ r. ⌜ Adds (now (out .entry)) 0 (refusedLine n) r (now (out .exit)) ⌝ }
 {
     number_line(out, 0, b"refused=", n)
 }

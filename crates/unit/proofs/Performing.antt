@@ -28,7 +28,7 @@ use Rattle.unit_state.proofs.Units.{passed-on}
 use Rattle.endings.specs.declared.Ended.{Ended}
 use Rattle.endings.specs.Ending.{endOf, shown, Ends}
 use Rattle.endings.proofs.Ends.{refused-ends, accepted-ends}
-use Rattle.unit.specs.Admission.{Seen}
+use Rattle.unit.specs.Admission.{Received}
 
 -- a command that changed nothing but what the next one has before it
 passed-out : (u : Record) (s : Running) (main store : List ℕ) → noOperation (stateOf u s) main store ≡ out (ended (stateOf u (passedOn s)) 0 0 0) main store
@@ -52,7 +52,7 @@ module _ {dev : Device} {u : Record} {c : Ccw} {s : Running} (main : List ℕ) {
   unfolding unitCauses stateOf unitOf counted withCounts withSense
   by-ready e b = stopped 44 (early-unit dev c (stateOf u s) main store 44 e (first-here _ _ b)) (λ z. omega arith) (λ z. omega arith)
 
-  module _ (seen : Seen c u main) where
+  module _ (seen : Received c u main) where
     pub by-list : oneOf commands (c .command) ≡ false → r ≡ endOf c s 0 0 0 43 (zeros 8) → Ends u c s r main store (step dev c (stateOf u s) main store)
     unfolding unitCauses stateOf unitOf counted withCounts withSense
     by-list b = stopped 43 (early-unit dev c (stateOf u s) main store 43 (seen .channel) (first-later _ _ (seen .ready) ∙ first-here _ _ (ap not b))) (λ z. omega arith) (λ z. omega arith)

@@ -1,5 +1,5 @@
 -- What `perform` may take as known.
---     Seen   the channel passed the command on, and the unit is ready for it
+--     Received   the channel passed the command on, and the unit is ready for it
 -- Assumes nothing.
 use mathlib.Core.Path.{_≡_}
 use mathlib.Core.Bool.{false, not, _&&_}
@@ -12,6 +12,6 @@ use Rattle.model.specs.Names.{SENSE, SENSE-TYPE}
 use Rattle.model.specs.Rules.{firstOf}
 use Rattle.model.specs.Causes.{channelCauses}
 
-pub record Seen (c : Ccw) (u : Record) (main : List ℕ) : Type 0 where
+pub record Received (c : Ccw) (u : Record) (main : List ℕ) : Type 0 where
   pub channel : firstOf (channelCauses c main) ≡ 0
   pub ready : (u .ready =? 0 && not (oneOf (SENSE ∷ SENSE-TYPE ∷ []) (c .command))) ≡ false

@@ -26,7 +26,7 @@ ghost use Rattle.model.specs.Names.{NO-OPERATION, SENSE, SENSE-TYPE};
 ghost use Rattle.model.specs.Commands.{step};
 ghost use Rattle.unit_state.specs.Standing.{stateOf, Sound, Handed};
 ghost use Rattle.endings.specs.Ending.{Ends};
-ghost use Rattle.unit.specs.Admission.{Seen};
+ghost use Rattle.unit.specs.Admission.{Received};
 
 // A unit that is not ready answers SENSE and SENSE TYPE alone.
 fn not_ready(code: u8, ready: u8) -> bool
@@ -43,7 +43,7 @@ fn not_ready(code: u8, ready: u8) -> bool
 
 // A command other than NO-OPERATION that the channel passed on to a unit that is ready for it.
 fn perform(d: Device, u: Record, c: Ccw, s: Running, main: &mut [u8], store: &mut [u8]) -> Ended
-    requires { ⌜ Sound d s (now store) × Handed c (now main) × Seen c u (now main) × (c .command ≡ NO-OPERATION → ⊥) ⌝ }
+    requires { ⌜ Sound d s (now store) × Handed c (now main) × Received c u (now main) × (c .command ≡ NO-OPERATION → ⊥) ⌝ }
     ensures { λ r. ⌜ Ends u c s r (now (main .exit)) (now (store .exit)) (step d c (stateOf u s) (now (main .entry)) (now (store .entry))) ⌝ }
 {
     let code = c.command;

@@ -41,7 +41,7 @@ use denote.Triple.Table.{entered, cited}
 use denote.Triple.Clauses.{ensured, lasts}
 use denote.Triple.Walked.{says, Stays, stay-ref, stay-none-slice, gave-slice, walkOf, AllGo, goes-ref, goes-none-slice, goes-gave-slice, Walks, ends-at, walked, walk-meets}
 use denote.Exit.{yes}
-use Rattle.in_place.specs.Run.{After, Made}
+use Rattle.in_place.specs.Run.{ByValue, InPlace}
 use Rattle.in_place.proofs.Lent.{mach, slice}
 use Rattle.model.specs.declared.record.Record.{Record}
 use Rattle.in_place.specs.declared.Ran.{Ran}
@@ -88,7 +88,7 @@ module _ {M : Type 1} (𝓤 : URA M) (H : Heap 𝓤) (A : Atoms 𝓤) (W : Given
   goes-core : ent 𝓤 (⋆ 𝓤 H A ((‵ (flft κ′ q′) ⊛ ‵ (flft κ2 q2) ⊛ ‵ (flft κ3 q3) ⊛ ‵ (flft κ4 q4) ⊛ ‵ ftrue) ∷ ‵ (owns (T.the-row ∷ ShrSlice (named 0) κ′ u8 ∷ MutSlice (named 1) κ2 u8 ∷ MutSlice (named 2) κ3 u8 ∷ MutSlice (named 3) κ4 u8 ∷ []) (h, (c, (x0, (x1, (x2, tt))))) (mach h ∷ [], (slice c ∷ [], (slice x0 ∷ [], (slice x1 ∷ [], (slice x2 ∷ [], tt)))))) ∷ [])) (Core 𝓤 H A at-mem run .pre to)
   goes-core = qed W ((‵ (flft κ′ q′) ⊛ ‵ (flft κ2 q2) ⊛ ‵ (flft κ3 q3) ⊛ ‵ (flft κ4 q4) ⊛ ‵ ftrue) ∷ ‵ (owns (T.the-row ∷ ShrSlice (named 0) κ′ u8 ∷ MutSlice (named 1) κ2 u8 ∷ MutSlice (named 2) κ3 u8 ∷ MutSlice (named 3) κ4 u8 ∷ []) (h, (c, (x0, (x1, (x2, tt))))) (mach h ∷ [], (slice c ∷ [], (slice x0 ∷ [], (slice x1 ∷ [], (slice x2 ∷ [], tt)))))) ∷ []) ∵ join ! $ frame ! $ done !
 
-  exits : (r : Ran) (z0 z1 z2 : List ℕ) → r .code < 2 ^ 32 → After h (c .now) (x0 .now) (x1 .now) (x2 .now) r z0 z1 z2 → length z0 ≡ length (x0 .now) → length z1 ≡ length (x1 .now) → length z2 ≡ length (x2 .now)
+  exits : (r : Ran) (z0 z1 z2 : List ℕ) → r .code < 2 ^ 32 → ByValue h (c .now) (x0 .now) (x1 .now) (x2 .now) r z0 z1 z2 → length z0 ≡ length (x0 .now) → length z1 ≡ length (x1 .now) → length z2 ≡ length (x2 .now)
       → ent 𝓤 (⋆ 𝓤 H A (‵ (fobs γ (T.the-row .coded .code (r .unit))) ∷ ‵ (fbor κ (Body (mem (T.the-row)) b o γ)) ∷ ‵ (flft κ q) ∷ (‵ (flft κ′ q′) ⊛ ‵ (flft κ2 q2) ⊛ ‵ (flft κ3 q3) ⊛ ‵ (flft κ4 q4) ⊛ ‵ ftrue) ∷ ‵ (finally u8 (x0 .name) z0) ∷ ‵ (finally u8 (x1 .name) z1) ∷ ‵ (finally u8 (x2 .name) z2) ∷ ‵ Own ∷ [])) (Post (vint w32 (r .code)))
   exits r z0 z1 z2 fits e l0 l1 l2 =
       qed W (‵ (fobs γ (T.the-row .coded .code (r .unit))) ∷ ‵ (fbor κ (Body (mem (T.the-row)) b o γ)) ∷ ‵ (flft κ q) ∷ (‵ (flft κ′ q′) ⊛ ‵ (flft κ2 q2) ⊛ ‵ (flft κ3 q3) ⊛ ‵ (flft κ4 q4) ⊛ ‵ ftrue) ∷ ‵ (finally u8 (x0 .name) z0) ∷ ‵ (finally u8 (x1 .name) z1) ∷ ‵ (finally u8 (x2 .name) z2) ∷ ‵ Own ∷ []) ∵
@@ -121,8 +121,8 @@ module _ {M : Type 1} (𝓤 : URA M) (H : Heap 𝓤) (A : Atoms 𝓤) (W : Given
         -- [the callee's pre; what chain owns; the cell; the open borrow; obs; auth; the locals]
         calls-at ! fm (Core 𝓤 H A at-mem run) known to (and-then ! (load ! (from ! (stop !)) (look ! 18 refl)) (and-then ! (load ! (from ! (stop !)) (look ! 28 refl)) (and-then ! (load ! (from ! (stop !)) (look ! 14 refl)) (and-then ! (load ! (from ! (stop !)) (look ! 10 refl)) (and-then ! (load ! (from ! (stop !)) (look ! 6 refl)) (no-more !)))))) (λ w.
         use1 W (later (some (λ (r : Ran). ((‵ (flft κ′ q′) ⊛ ‵ (flft κ2 q2) ⊛ ‵ (flft κ3 q3) ⊛ ‵ (flft κ4 q4) ⊛ ‵ ftrue) ⊛ ‵ (N.the-row .own r (w ∷ []))) ⊛ raw (ensured 𝓤 H A core.ended (core.clauses 𝓤 H A at-mem run) (κ′, (κ2, (κ3, (κ4, tt)))) (h, (c, (x0, (x1, (x2, tt))))) tt r)))) (id⊢ 𝓤 _) $ await ! tt $ pick ! (λ r.
-        split ! $ move ! (1 ∷ []) $ use1 W (some (λ (zs : Unit {0} × (Unit {0} × (List ℕ × (List ℕ × (List ℕ × Unit {0}))))). ‵ (lasts core.ended (κ′, (κ2, (κ3, (κ4, tt)))) (h, (c, (x0, (x1, (x2, tt))))) zs) ⊛ raw (fact 𝓤 (After h (c .now) (x0 .now) (x1 .now) (x2 .now) r (zs .1 .1 .0) (zs .1 .1 .1 .0) (zs .1 .1 .1 .1 .0))))) (id⊢ 𝓤 _) $ pick ! (λ zs.
-        split ! $ move ! (1 ∷ []) $ heard ! (After h (c .now) (x0 .now) (x1 .now) (x2 .now) r (zs .1 .1 .0) (zs .1 .1 .1 .0) (zs .1 .1 .1 .1 .0)) (λ e. fsplit ! $ move ! (1 ∷ []) $ fsplit ! $ move ! (1 ∷ []) $ fsplit ! $ fsplit ! $ move ! (1 ∷ []) $ feqL ! (λ l0. move ! (1 ∷ []) $ fsplit ! $ fsplit ! $ move ! (1 ∷ []) $ feqL ! (λ l1. move ! (1 ∷ []) $ fsplit ! $ fsplit ! $ move ! (1 ∷ []) $ feqL ! (λ l2.
+        split ! $ move ! (1 ∷ []) $ use1 W (some (λ (zs : Unit {0} × (Unit {0} × (List ℕ × (List ℕ × (List ℕ × Unit {0}))))). ‵ (lasts core.ended (κ′, (κ2, (κ3, (κ4, tt)))) (h, (c, (x0, (x1, (x2, tt))))) zs) ⊛ raw (fact 𝓤 (ByValue h (c .now) (x0 .now) (x1 .now) (x2 .now) r (zs .1 .1 .0) (zs .1 .1 .1 .0) (zs .1 .1 .1 .1 .0))))) (id⊢ 𝓤 _) $ pick ! (λ zs.
+        split ! $ move ! (1 ∷ []) $ heard ! (ByValue h (c .now) (x0 .now) (x1 .now) (x2 .now) r (zs .1 .1 .0) (zs .1 .1 .1 .0) (zs .1 .1 .1 .1 .0)) (λ e. fsplit ! $ move ! (1 ∷ []) $ fsplit ! $ move ! (1 ∷ []) $ fsplit ! $ fsplit ! $ move ! (1 ∷ []) $ feqL ! (λ l0. move ! (1 ∷ []) $ fsplit ! $ fsplit ! $ move ! (1 ∷ []) $ feqL ! (λ l1. move ! (1 ∷ []) $ fsplit ! $ fsplit ! $ move ! (1 ∷ []) $ feqL ! (λ l2.
         move ! (6 ∷ []) $ split ! $ move ! (1 ∷ []) $ peeks ! N.the-row (Is N.the-row) (shows 𝓤 H A N.the-row) r (w ∷ []) (λ is.
         land ! (from ! (stop !)) (init ! 27 refl (LL.lawful N.the-type N′.the-laws 𝓤 H A W .typed r _ is .0)) $
         rewrite ! 27 (λ (u : Val). ‵ (fat fullShare N′.mir m6 0 u)) (ap only (LL.tells N.the-type N′.the-laws r _ is)) refl $

@@ -43,7 +43,7 @@ use denote.Triple.Table.{entered, cited}
 use denote.Triple.Clauses.{ensured, lasts}
 use denote.Triple.Walked.{says, Stays, stay-none, stay-none-slice, gave-slice, walkOf, AllGo, goes-none, goes-none-slice, goes-gave-slice, Walks, ends-at, walked, walk-meets}
 use denote.Exit.{yes}
-use Rattle.in_place.specs.Run.{After, Made}
+use Rattle.in_place.specs.Run.{ByValue, InPlace}
 use Rattle.in_place.proofs.Lent.{mach, slice}
 use Rattle.model.specs.declared.record.Record.{Record}
 use Rattle.in_place.specs.declared.Ran.{Ran}
@@ -116,7 +116,7 @@ module _ {M : Type 1} (𝓤 : URA M) (H : Heap 𝓤) (A : Atoms 𝓤) (W : Given
   is-ran : (h′ : Record) (r : ℕ) → Is R h′ (mach h′ ∷ []) → r < 2 ^ 32 → Is N.the-row (ran h′ r) (LL.vals N.the-type N′.the-laws (ran h′ r))
   is-ran h′ r g′ fits = LL.owes N.the-type N′.the-laws (ran h′ r) (g′, ((refl, fits), tt))
 
-  exits : (h′ : Record) (r : ℕ) (z0 z1 z2 : List ℕ) → Is R h′ (mach h′ ∷ []) → r < 2 ^ 32 → Made h (c .now) (x0 .now) (x1 .now) (x2 .now) r h′ z0 z1 z2 → length z0 ≡ length (x0 .now) → length z1 ≡ length (x1 .now) → length z2 ≡ length (x2 .now)
+  exits : (h′ : Record) (r : ℕ) (z0 z1 z2 : List ℕ) → Is R h′ (mach h′ ∷ []) → r < 2 ^ 32 → InPlace h (c .now) (x0 .now) (x1 .now) (x2 .now) r h′ z0 z1 z2 → length z0 ≡ length (x0 .now) → length z1 ≡ length (x1 .now) → length z2 ≡ length (x2 .now)
       → ent 𝓤 (⋆ 𝓤 H A ((‵ (flft κ0 q0) ⊛ ‵ (flft κ1 q1) ⊛ ‵ (flft κ2 q2) ⊛ ‵ (flft κ3 q3) ⊛ ‵ ftrue) ∷ ‵ (finally u8 (x0 .name) z0) ∷ ‵ (finally u8 (x1 .name) z1) ∷ ‵ (finally u8 (x2 .name) z2) ∷ ‵ Own ∷ [])) (Post (LL.val N.the-type N′.the-laws (ran h′ r)))
   exits h′ r z0 z1 z2 g′ fits e l0 l1 l2 =
       qed W ((‵ (flft κ0 q0) ⊛ ‵ (flft κ1 q1) ⊛ ‵ (flft κ2 q2) ⊛ ‵ (flft κ3 q3) ⊛ ‵ ftrue) ∷ ‵ (finally u8 (x0 .name) z0) ∷ ‵ (finally u8 (x1 .name) z1) ∷ ‵ (finally u8 (x2 .name) z2) ∷ ‵ Own ∷ []) ∵
@@ -147,8 +147,8 @@ module _ {M : Type 1} (𝓤 : URA M) (H : Heap 𝓤) (A : Atoms 𝓤) (W : Given
         -- [the callee's pre; what chain owns; the lender's part; the locals, without the cell of t]
         calls-at ! fm (Core 𝓤 H A at-mem run) known (to m6 ν δ) (and-then ! (load ! (from ! (stop !)) (look ! 17 refl)) (and-then ! (load ! (from ! (stop !)) (look ! 28 refl)) (and-then ! (load ! (from ! (stop !)) (look ! 13 refl)) (and-then ! (load ! (from ! (stop !)) (look ! 9 refl)) (and-then ! (load ! (from ! (stop !)) (look ! 5 refl)) (no-more !)))))) (λ w.
         use1 W (later (some (λ (r : ℕ). ((‵ (flft (ν ∷ []) fullShare) ⊛ ‵ (flft κ0 q0) ⊛ ‵ (flft κ1 q1) ⊛ ‵ (flft κ2 q2) ⊛ ‵ (flft κ3 q3) ⊛ ‵ ftrue) ⊛ ‵ (u32 .own r (w ∷ []))) ⊛ raw (ensured 𝓤 H A core.ended (core.clauses 𝓤 H A at-mem run) (ν ∷ [], (κ0, (κ1, (κ2, (κ3, tt))))) (x m6 δ, (c, (x0, (x1, (x2, tt))))) tt r)))) (id⊢ 𝓤 _) $ await ! tt $ pick ! (λ r.
-        split ! $ move ! (1 ∷ []) $ use1 W (some (λ (zs : Record × (Unit {0} × (List ℕ × (List ℕ × (List ℕ × Unit {0}))))). ‵ (lasts core.ended (ν ∷ [], (κ0, (κ1, (κ2, (κ3, tt))))) (x m6 δ, (c, (x0, (x1, (x2, tt))))) zs) ⊛ raw (fact 𝓤 (Made h (c .now) (x0 .now) (x1 .now) (x2 .now) r (zs .0) (zs .1 .1 .0) (zs .1 .1 .1 .0) (zs .1 .1 .1 .1 .0))))) (id⊢ 𝓤 _) $ pick ! (λ zs.
-        split ! $ move ! (1 ∷ []) $ heard ! (Made h (c .now) (x0 .now) (x1 .now) (x2 .now) r (zs .0) (zs .1 .1 .0) (zs .1 .1 .1 .0) (zs .1 .1 .1 .1 .0)) (λ e. fsplit ! $ move ! (1 ∷ []) $ fsplit ! $ move ! (1 ∷ []) $ fsplit ! $ fsplit ! $ move ! (1 ∷ []) $ feqL ! (λ l0. move ! (1 ∷ []) $ fsplit ! $ fsplit ! $ move ! (1 ∷ []) $ feqL ! (λ l1. move ! (1 ∷ []) $ fsplit ! $ fsplit ! $ move ! (1 ∷ []) $ feqL ! (λ l2.
+        split ! $ move ! (1 ∷ []) $ use1 W (some (λ (zs : Record × (Unit {0} × (List ℕ × (List ℕ × (List ℕ × Unit {0}))))). ‵ (lasts core.ended (ν ∷ [], (κ0, (κ1, (κ2, (κ3, tt))))) (x m6 δ, (c, (x0, (x1, (x2, tt))))) zs) ⊛ raw (fact 𝓤 (InPlace h (c .now) (x0 .now) (x1 .now) (x2 .now) r (zs .0) (zs .1 .1 .0) (zs .1 .1 .1 .0) (zs .1 .1 .1 .1 .0))))) (id⊢ 𝓤 _) $ pick ! (λ zs.
+        split ! $ move ! (1 ∷ []) $ heard ! (InPlace h (c .now) (x0 .now) (x1 .now) (x2 .now) r (zs .0) (zs .1 .1 .0) (zs .1 .1 .1 .0) (zs .1 .1 .1 .1 .0)) (λ e. fsplit ! $ move ! (1 ∷ []) $ fsplit ! $ move ! (1 ∷ []) $ fsplit ! $ fsplit ! $ move ! (1 ∷ []) $ feqL ! (λ l0. move ! (1 ∷ []) $ fsplit ! $ fsplit ! $ move ! (1 ∷ []) $ feqL ! (λ l1. move ! (1 ∷ []) $ fsplit ! $ fsplit ! $ move ! (1 ∷ []) $ feqL ! (λ l2.
         move ! (6 ∷ []) $ split ! $ move ! (1 ∷ []) $ peeks ! u32 (Is u32) (shows 𝓤 H A u32) r (w ∷ []) (λ is.
         land ! (from ! (stop !)) (init ! 26 refl (uint-lawful 𝓤 H A W w32 .typed r _ is .0)) $ rewrite ! 26 (λ (u : Val). ‵ (fat fullShare (tyInt w32) m7 0 u)) (ap only (is .0)) refl $
         -- the lifetime is ended, and the local is back

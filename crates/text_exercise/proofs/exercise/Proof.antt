@@ -8,7 +8,7 @@ use Rattle.text_exercise.proofs.exercise.Tie as tie
 
 returns : tie.Need-returns
 unfolding exercise pick
-returns c = rw (← (c .before .before .before .before .before .wrong-line .ensures), ne-eqb _ _ (c .before .before .before .before .if1 .taken)) (c .before .before .refuse .ensures)
+returns c = rw (← (c .before .before .before .before .before .wrong-line .ensures), ne-eqb _ _ (c .before .before .before .before .if1 .taken)) (c .before .before .print-refused .ensures)
 
 returns-2 : tie.Need-returns-2
 unfolding exercise pick
@@ -17,7 +17,7 @@ returns-2 c = rw (← (c .before .before .before .before .before .before .before
 pub exercise-spec : {M : Type 1} → statement M
 exercise-spec = tie.close (tie.spec
     (search needs)  -- wrong-line-requires
-    (search needs)  -- refuse-requires
+    (search needs)  -- print-refused-requires
     (search needs)  -- same-length
     returns
     (search needs)  -- slice-aggregate-run-input

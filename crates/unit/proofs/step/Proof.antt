@@ -3,13 +3,13 @@ use mathlib.Core.Path.{sym, _∙_}
 use borrow.Author.Needs.{needs}
 use Rattle.model.proofs.Steps.{channel-room}
 use Rattle.unit_state.specs.Standing.{stateOf}
-use Rattle.unit.specs.Admission.{Seen}
+use Rattle.unit.specs.Admission.{Received}
 use Rattle.unit.proofs.Performing.{by-channel, by-ready, no-operation-ends}
 use Rattle.unit.proofs.step.Statement.{statement}
 use Rattle.unit.proofs.step.Tie as tie
 
 -- past the tests of the channel and of the unit
-seen : (c : tie.Else2) → let a = c .before .before .before .before .before .before .before .args in Seen (a .c) (a .u) (a .main .now)
+seen : (c : tie.Else2) → let a = c .before .before .before .before .before .before .before .args in Received (a .c) (a .u) (a .main .now)
 seen c =
     let tested = c .before .before in
     record { channel = sym (tested .before .channel-cause .ensures) ∙ tested .if1 .left; ready = sym (c .before .not-ready .ensures) ∙ c .if2 .left }
