@@ -109,9 +109,10 @@ pub fn pack_left(l: Left, to: &mut [u8])
     requires { ⌜ length (now to) ≡ recordSize ⌝ }
     ensures { λ _. ⌜ now (to .exit) ≡ recordBytes (stateLeft (recordOf (now (to .entry))) l .unit) ⌝ }
 {
-    let read = l.state.counts.blocks_read;
-    let written = l.state.counts.blocks_written;
-    let movements = l.state.counts.movements;
+    let counts = l.state.counts;
+    let read = counts.blocks_read;
+    let written = counts.blocks_written;
+    let movements = counts.movements;
     put_sense(l, &mut to[..BLOCKS_READ]);
     put_counts(read, written, movements, to);
 }

@@ -47,7 +47,7 @@ row-past cause h = rw (past senseTable 45 cause refl h)
 
 -- with a row's three bytes stored
 abbrev with-row : SenseRow → List ℕ
-with-row r = set (set (set (replicate 24 0) 0 (r .0)) 1 (r .1)) 7 (r .2)
+with-row r = put (replicate 24 0) 0 (take 8 (set (set (set (replicate 8 0) 0 (r .0)) 1 (r .1)) 7 (r .2)))
 
 pub sense-plain : (cause : ℕ) (parameters : List ℕ) (r : SenseRow) → r ≡ rowOf cause → eqb cause 39 ≡ false → with-row r ≡ senseOf cause parameters
 unfolding senseOf put zeros pick

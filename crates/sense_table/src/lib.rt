@@ -85,10 +85,12 @@ pub fn sense_of(cause: u8, parameters: [u8; 8]) -> [u8; 24]
     ensures { λ r. ⌜ r ≡ senseOf cause parameters ⌝ }
 {
     let row = row_of(cause);
+    let mut head = [0u8; SenseRow::PARAMETERS];
+    head[0] = row.0;
+    head[1] = row.1;
+    head[SenseRow::FORMAT] = row.2;
     let mut sense = [0u8; 24];
-    sense[0] = row.0;
-    sense[1] = row.1;
-    sense[SenseRow::FORMAT] = row.2;
+    put_at(&mut sense, 0, &head, SenseRow::PARAMETERS);
     if cause == 39 {
         put_at(&mut sense, SenseRow::PARAMETERS, &parameters, 8);
     }

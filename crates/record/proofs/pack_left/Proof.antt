@@ -19,14 +19,14 @@ unfolding recordOf part
 returns c =
     let counts = c .before .before in
     let sense = counts .before .before .before .before in
-    let start = sense .before .before .before .before .before .before in
+    let start = sense .before .before .before .before .before .before .before in
     counts .put-counts .ensures ∙ left-stored (start .args .l) (start .args .to .now) _ (start .pre) (sense .put-sense .kept .1 .0 ∙ front start) (sense .put-sense .ensures (recordOf (start .args .to .now)) refl)
 
 pub pack-left-spec : {M : Type 1} → statement M
 pack-left-spec = tie.close (tie.spec
     (search needs)  -- slice-relend-prefix-put-sense
-    (λ c. sym (front (c .before .before .before .before .before)))  -- slice-front
-    (λ c κs. front (c .before .before .before .before .before))  -- front-long
+    (λ c. sym (front (c .before .before .before .before .before .before)))  -- slice-front
+    (λ c κs. front (c .before .before .before .before .before .before))  -- front-long
     (search needs)  -- put-counts-requires
     (search needs)  -- same-length
     returns)

@@ -13,18 +13,27 @@ long c = search needs
 
 returns : tie.Need-returns
 returns c =
-    let p = c .before in
-    let i = p .before .before .before in
-    p .put-at .ensures ∙ sense-shown _ _ _ (i .before .row-of .ensures) (eq-eqb _ _ (i .if1 .taken)) (long (i .before .before))
+    let i = c .before .before .before .before in
+    let headed = i .before .before in
+    let row = headed .before .before .before in
+    rw (headed .put-at .ensures) at (c .before .put-at2 .ensures) ∙ sense-shown _ _ _ (row .row-of .ensures) (eq-eqb _ _ (i .if1 .taken)) (long (row .before))
+
+returns-2 : tie.Need-returns-2
+returns-2 c =
+    let headed = c .before .before in
+    headed .put-at .ensures ∙ sense-plain _ _ _ (headed .before .before .before .row-of .ensures) (ne-eqb _ _ (c .if1 .left))
 
 pub sense-of-spec : {M : Type 1} → statement M
 sense-of-spec = tie.close (tie.spec
     (search needs)  -- row-of-requires
-    (search needs)  -- array-write-sense
-    (search needs)  -- array-write-sense-2
-    (search needs)  -- array-write-sense-3
+    (search needs)  -- array-write-head
+    (search needs)  -- array-write-head-2
+    (search needs)  -- array-write-head-3
     (search needs)  -- slice-aggregate-put-at
     (search needs)  -- slice-aggregate-put-at-2
     (search needs)  -- put-at-requires
+    (search needs)  -- slice-aggregate-put-at-3
+    (search needs)  -- slice-aggregate-put-at-4
+    (search needs)  -- put-at-requires-2
     returns
-    (λ c. sense-plain _ _ _ (c .before .row-of .ensures) (ne-eqb _ _ (c .if1 .left))))  -- returns-2
+    returns-2)
