@@ -96,10 +96,10 @@ fn one_turn(
     }
 }
 
-// The commands reached, and how the run leaves the unit.
+// How a run leaves the unit, and the commands reached.
 pub struct Walked {
-    pub reached: usize,
     pub left: Left,
+    pub reached: usize,
 }
 
 pub fn run_chain(
@@ -135,7 +135,7 @@ pub fn run_chain(
     Walked {
         left: Left {
             state: state,
-            parameters: [0u8; 8],
+            parameters: [0u8; sizes::LOCATE],
             cause: 0,
         },
         reached: i,

@@ -9,6 +9,7 @@ use model::device::Device;
 use model::extent::Displacement;
 use model::extent::Extent;
 use model::extent::Offset;
+use model::sizes;
 use model::state::Before;
 use storage::fetch;
 use unit_state::Running;
@@ -88,7 +89,7 @@ fn size_wrong(field: usize, size: usize) -> bool
 }
 
 pub fn extent_in(p: &[u8]) -> Extent
-    requires { ⌜ length (now p) ≡ 16 ⌝ }
+    requires { ⌜ length (now p) ≡ extentLength ⌝ }
     ensures { λ r. ⌜ r ≡ extentIn (now (p .entry)) ⌝ }
 {
     Extent {
@@ -111,7 +112,7 @@ fn past_device(e: Extent, blocks: usize) -> bool
 
 // The sixteen bytes, on this device, of so many blocks.
 pub fn define_parameters(d: Device, blocks: usize, p: &[u8]) -> Defined
-    requires { ⌜ length (now p) ≡ 16 ⌝ }
+    requires { ⌜ length (now p) ≡ extentLength ⌝ }
     ensures { λ r. ⌜ definedNumber r ≡ firstOf (extentCauses d blocks (now (p .entry))) ⌝ }
 {
     let e = extent_in(p);
@@ -133,9 +134,6 @@ pub fn define_parameters(d: Device, blocks: usize, p: &[u8]) -> Defined
     Defined::Taken
 }
 
-// The bytes that DEFINE EXTENT moves.
-const EXTENT_LENGTH: usize = 16;
-
 // The command by its sixteen bytes.
 fn define_by(d: Device, blocks: usize, c: Ccw, s: Running, p: &[u8]) -> Ended
     requires { ⌜ (length (now p) ≡ extentLength) × (extentLength ≤ c .count) × (c .count < 65536) ⌝ }
@@ -147,20 +145,20 @@ fn define_by(d: Device, blocks: usize, c: Ccw, s: Running, p: &[u8]) -> Ended
         return refuse(c, s, cause);
     }
     let t = extent_set(s, s.counts, extent_in(p), Before::Other);
-    accept(c, t, EXTENT_LENGTH, EXTENT_LENGTH, 0)
+    accept(c, t, sizes::EXTENT, sizes::EXTENT, 0)
 }
 
 pub fn define_extent(d: Device, c: Ccw, s: Running, main: &[u8], store: &[u8]) -> Ended
     requires { ⌜ Sound d s (now store) × Handed c (now main) × (c .command ≡ DEFINE-EXTENT) ⌝ }
     ensures { λ r. ⌜ ((u : Record) → Ends u c s r (now (main .entry)) (now (store .entry)) (performed d c (stateOf u s) (now (main .entry)) (now (store .entry)))) ⌝ }
 {
-    if c.count < EXTENT_LENGTH {
+    if c.count < sizes::EXTENT {
         return refuse(c, s, 20);
     }
     if s.defined {
         return refuse(c, s, 21);
     }
-    let mut p = [0u8; EXTENT_LENGTH];
-    fetch(c, main, 0, &mut p, EXTENT_LENGTH);
+    let mut p = [0u8; sizes::EXTENT];
+    fetch(c, main, 0, &mut p, sizes::EXTENT);
     define_by(d, block_count(d, store), c, s, &p)
 }

@@ -2,8 +2,8 @@
 // number); and the command, `locate`. It changes no storage.
 use endings::Ended;
 use endings::accept;
-use endings::end;
 use endings::refuse;
+use endings::refuse_showing;
 use log::movement_counted;
 use model::ccw::Ccw;
 use model::extent::Displacement;
@@ -11,6 +11,7 @@ use model::extent::Extent;
 use model::extent::Located;
 use model::operation;
 use model::record::Record;
+use model::sizes;
 use storage::fetch;
 use unit_state::Running;
 use unit_state::locate_set;
@@ -23,7 +24,7 @@ ghost use lib.ListN.{length};
 ghost use Rattle.numbers.specs.Bits.{anyBit};
 ghost use Rattle.numbers.specs.Choice.{pick, oneOf};
 ghost use Rattle.model.specs.declared.device.Device.{Device};
-ghost use Rattle.model.specs.Names.{LOCATE};
+ghost use Rattle.model.specs.Names.{LOCATE, format, read-replicated};
 ghost use Rattle.model.specs.Rules.{firstOf};
 ghost use Rattle.model.specs.Lent.{fetched};
 ghost use Rattle.model.specs.Parameters.{locateLength, locatedIn, operations, writes, forbids, outside};
@@ -71,7 +72,7 @@ fn modifier_wrong(byte: u8) -> bool
 }
 
 pub fn located_in(p: &[u8]) -> Located
-    requires { ⌜ length (now p) ≡ 8 ⌝ }
+    requires { ⌜ length (now p) ≡ locateLength ⌝ }
     ensures { λ r. ⌜ (r ≡ locatedIn (now (p .entry))) × (r .operation < 16) × (r .blocks < 65536) ⌝ }
 {
     Located {
@@ -97,7 +98,7 @@ fn is_operation(code: u32) -> bool
 
 // No block, or a format of other than one.
 fn count_wrong(l: Located) -> bool
-    ensures { λ r. ⌜ r ≡ (eqb (l .blocks) 0 || (eqb (l .operation) 4 && not (eqb (l .blocks) 1))) ⌝ }
+    ensures { λ r. ⌜ r ≡ (eqb (l .blocks) 0 || (eqb (l .operation) format && not (eqb (l .blocks) 1))) ⌝ }
 {
     if l.blocks == 0 {
         return true;
@@ -111,7 +112,7 @@ fn count_wrong(l: Located) -> bool
 // A replicated read whose range is not made of whole units.
 fn replication_wrong(l: Located, replication: usize) -> bool
     requires { ⌜ (l .blocks ≡ 0 → ⊥) ⌝ }
-    ensures { λ r. ⌜ r ≡ (eqb (l .operation) 2 && (ltb replication (l .blocks) || not (eqb (replication % l .blocks) 0))) ⌝ }
+    ensures { λ r. ⌜ r ≡ (eqb (l .operation) read-replicated && (ltb replication (l .blocks) || not (eqb (replication % l .blocks) 0))) ⌝ }
 {
     if l.operation != operation::READ_REPLICATED {
         return false;
@@ -125,7 +126,7 @@ fn replication_wrong(l: Located, replication: usize) -> bool
 
 // As many blocks as the LOCATE has to hold against the extent.
 fn blocks_processed(l: Located, replication: usize) -> usize
-    ensures { λ r. ⌜ r ≡ pick (eqb (l .operation) 2) replication (l .blocks) ⌝ }
+    ensures { λ r. ⌜ r ≡ pick (eqb (l .operation) read-replicated) replication (l .blocks) ⌝ }
 {
     if l.operation == operation::READ_REPLICATED {
         replication
@@ -164,7 +165,7 @@ fn mask_forbids(mask: u32, operation: u32) -> bool
 
 // The unit is read-only, and the operation writes or formats.
 fn write_inhibited(read_only: u8, code: u32) -> bool
-    ensures { λ r. ⌜ r ≡ (not (eqb «read_only» 0) && (writes code || eqb code 4)) ⌝ }
+    ensures { λ r. ⌜ r ≡ (not (eqb «read_only» 0) && (writes code || eqb code format)) ⌝ }
 {
     if read_only == 0 {
         return false;
@@ -201,7 +202,7 @@ fn permit(u: Record, s: Running, l: Located, n: usize) -> Location
 
 // The eight bytes, under the extent and on the unit of this state.
 pub fn locate_parameters(u: Record, s: Running, p: &[u8]) -> Location
-    requires { ⌜ length (now p) ≡ 8 ⌝ }
+    requires { ⌜ length (now p) ≡ locateLength ⌝ }
     ensures { λ r. ⌜ locationNumber r ≡ firstOf (locationCauses (stateOf u s) (now (p .entry))) ⌝ }
 {
     let l = located_in(p);
@@ -222,17 +223,14 @@ pub fn locate_parameters(u: Record, s: Running, p: &[u8]) -> Location
     permit(u, s, l, n)
 }
 
-// The bytes that LOCATE moves.
-const LOCATE_LENGTH: usize = 8;
-
 // The parameters that a cause shows: the LOCATE's eight bytes with 39, else zeros.
-fn shown_by(cause: u8, c: Ccw, main: &[u8]) -> [u8; 8]
+fn shown_by(cause: u8, c: Ccw, main: &[u8]) -> [u8; sizes::LOCATE]
     requires { ⌜ Handed c (now main) × (locateLength ≤ c .count) ⌝ }
     ensures { λ r. ⌜ r ≡ shown cause (fetched c (now (main .entry)) locateLength) ⌝ }
 {
-    let mut p = [0u8; LOCATE_LENGTH];
+    let mut p = [0u8; sizes::LOCATE];
     if cause == 39 {
-        fetch(c, main, 0, &mut p, LOCATE_LENGTH);
+        fetch(c, main, 0, &mut p, sizes::LOCATE);
     }
     p
 }
@@ -245,10 +243,10 @@ fn locate_by(u: Record, c: Ccw, s: Running, main: &[u8], p: &[u8]) -> Ended
     let answer = locate_parameters(u, s, p);
     let cause = answer.number();
     if cause != 0 {
-        return end(c, s, 0, 0, 0, cause, shown_by(cause, c, main));
+        return refuse_showing(c, s, cause, shown_by(cause, c, main));
     }
     let t = locate_set(s, movement_counted(s.counts), located_in(p));
-    accept(c, t, LOCATE_LENGTH, LOCATE_LENGTH, 0)
+    accept(c, t, sizes::LOCATE, sizes::LOCATE, 0)
 }
 
 // Its parameters are taken from main storage now, when it runs.
@@ -259,10 +257,10 @@ pub fn locate(u: Record, c: Ccw, s: Running, main: &[u8]) -> Ended
     if !s.defined {
         return refuse(c, s, 30);
     }
-    if c.count < LOCATE_LENGTH {
+    if c.count < sizes::LOCATE {
         return refuse(c, s, 31);
     }
-    let mut p = [0u8; LOCATE_LENGTH];
-    fetch(c, main, 0, &mut p, LOCATE_LENGTH);
+    let mut p = [0u8; sizes::LOCATE];
+    fetch(c, main, 0, &mut p, sizes::LOCATE);
     locate_by(u, c, s, main, &p)
 }

@@ -3,6 +3,7 @@
 use model::ccw::Ccw;
 use model::command;
 use model::kind::Kind;
+use model::sizes;
 use model::status::Channel;
 use model::status::Status;
 use unit_state::Left;
@@ -11,6 +12,7 @@ use unit_state::carried;
 ghost use mathlib.Core.Path.{_≡_};
 ghost use Prim.Native.Nat.{_≤_, _<_};
 ghost use Rattle.slices.specs.Parts.{zeros};
+ghost use Rattle.model.specs.Parameters.{locateLength};
 ghost use Rattle.model.specs.Answer.{wrongLength};
 ghost use Rattle.endings.specs.Ending.{answerWords, wrongBy, endOf};
 
@@ -73,7 +75,7 @@ pub fn end(
     can: usize,
     blocks: usize,
     cause: u8,
-    parameters: [u8; 8],
+    parameters: [u8; sizes::LOCATE],
 ) -> Ended
     requires { ⌜ (c .count < 65536) × (moved ≤ c .count) × (blocks < 65536) ⌝ }
     ensures { λ r. ⌜ r ≡ endOf c s moved can blocks cause parameters ⌝ }
@@ -92,15 +94,23 @@ pub fn end(
 
 pub fn accept(c: Ccw, s: Running, moved: usize, can: usize, blocks: usize) -> Ended
     requires { ⌜ (c .count < 65536) × (moved ≤ c .count) × (blocks < 65536) ⌝ }
-    ensures { λ r. ⌜ r ≡ endOf c s moved can blocks 0 (zeros 8) ⌝ }
+    ensures { λ r. ⌜ r ≡ endOf c s moved can blocks 0 (zeros locateLength) ⌝ }
 {
-    end(c, s, moved, can, blocks, 0, [0u8; 8])
+    end(c, s, moved, can, blocks, 0, [0u8; sizes::LOCATE])
 }
 
-// For any cause but 39.
+// A refusal has moved nothing. The parameters are those that its cause shows.
+pub fn refuse_showing(c: Ccw, s: Running, cause: u8, parameters: [u8; sizes::LOCATE]) -> Ended
+    requires { ⌜ c .count < 65536 ⌝ }
+    ensures { λ r. ⌜ r ≡ endOf c s 0 0 0 cause parameters ⌝ }
+{
+    end(c, s, 0, 0, 0, cause, parameters)
+}
+
+// For any cause but 39, which alone shows them.
 pub fn refuse(c: Ccw, s: Running, cause: u8) -> Ended
     requires { ⌜ c .count < 65536 ⌝ }
-    ensures { λ r. ⌜ r ≡ endOf c s 0 0 0 cause (zeros 8) ⌝ }
+    ensures { λ r. ⌜ r ≡ endOf c s 0 0 0 cause (zeros locateLength) ⌝ }
 {
-    end(c, s, 0, 0, 0, cause, [0u8; 8])
+    refuse_showing(c, s, cause, [0u8; sizes::LOCATE])
 }

@@ -1,6 +1,7 @@
 // The counts of the unit record, and the log that shows them: `Log::of` is what READ AND RESET BUFFERED LOG sends.
 // Nothing here is refused; a count that is full stays full.
 use model::record::Counts;
+use model::sizes;
 use numbers::bytes2;
 use numbers::bytes3;
 use numbers::number2;
@@ -75,7 +76,7 @@ pub fn none_counted() -> Counts
     }
 }
 
-pub struct Log(pub [u8; 24]);
+pub struct Log(pub [u8; sizes::SENSE]);
 
 // Where each thing stands in a log.
 impl Log {
@@ -96,7 +97,7 @@ impl Log {
         let read = k.blocks_read;
         let written = k.blocks_written;
         let movements = k.movements;
-        let mut log = [0u8; 24];
+        let mut log = [0u8; sizes::SENSE];
         log[Log::ENVIRONMENTAL] = 0x10; // bit 3: environmental data present
         log[Log::FORMAT] = 0x68; // format 6, message 8
         put_at(&mut log, Log::BLOCKS_READ, &read, 3);

@@ -1,9 +1,5 @@
--- Blocks in a row are one part of the store, and blocks that are stored in turn are one put.
+-- Blocks in a row are one part of the store; blocks that are stored in turn, one by one.
 --     blocks-from-part   what READ sees of n blocks
---     get-blocks-from    a byte of those
---     blocks-into-put    what WRITE leaves, with the bytes of all n blocks put at once
---     get-blocks-into, get-blocks-before, get-blocks-after
---                        a byte of those, and a byte of the blocks that WRITE does not reach
 --     take-blocks-more, blocks-into-last
 --                        one block more, of those that READ sees and of those that WRITE leaves
 --     blocks-from-same   blocks that are equal one by one are equal in a row
@@ -14,12 +10,12 @@ use Prim.Native.Nat.{ℕ, zero, suc, _+_, _*_, _≤_, _<_}
 use mathlib.Core.Path.{_≡_, refl, sym, _∙_}
 use mathlib.Core.Logic.{_⊎_, inl, inr}
 use mathlib.Core.List.{List, _++_}
-use lib.ListN.{length, getD, take, drop}
+use lib.ListN.{length, take, drop}
 use lib.Seq.{take-take, take-add, drop-drop}
 use native.Mathlib.Nat.{add-assoc, add-zero, suc-add, zero-mul, mul-le-mul-right}
 use native.Mathlib.Omega.{arith}
 use Rattle.slices.specs.Parts.{part, put, pad}
-use Rattle.slices.proofs.Laws.{part-apart, part-put, length-put, length-pad, pad-zero, pad-more, part-nil, part-more, put-nil, put-more, get-before, get-in, get-after, get-pad, get-part}
+use Rattle.slices.proofs.Laws.{part-apart, part-put, length-put, length-pad, part-nil, part-more}
 use Rattle.model.specs.Lent.{blockStart, blockAt, blocksFrom, blocksInto}
 use Rattle.model.specs.declared.device.Device.{Device}
 
@@ -30,35 +26,6 @@ blocks-from-part dev store block (suc n) =
     let e : (block + 1) * dev .block ≡ block * dev .block + dev .block = omega arith in
     let f : suc n * dev .block ≡ dev .block + n * dev .block = omega arith in
     rw (f, part-more, blocks-from-part dev store (block + 1) n, e)
-
-pub get-blocks-from : (dev : Device) (store : List ℕ) (block n i : ℕ) → i < n * dev .block → getD (blocksFrom dev store block n) i 0 ≡ getD store (block * dev .block + i) 0
-get-blocks-from dev store block n i h = rw blocks-from-part (get-part store (block * dev .block) (n * dev .block) i h)
-
-pub blocks-into-put : (dev : Device) (store : List ℕ) (block n : ℕ) (bytes : List ℕ) → (block + n) * dev .block ≤ length store
-    → blocksInto dev store block n bytes ≡ put store (block * dev .block) (pad (n * dev .block) bytes)
-unfolding blocksInto blockStart
-blocks-into-put dev store block zero bytes h = rw (zero-mul, pad-zero) (sym (put-nil store (block * dev .block)))
-blocks-into-put dev store block (suc n) bytes h =
-    let first : List ℕ = put store (block * dev .block) (pad (dev .block) bytes) in
-    let e : (block + 1) * dev .block ≡ block * dev .block + length (pad (dev .block) bytes) = rw length-pad (omega arith) in
-    let f : suc n * dev .block ≡ dev .block + n * dev .block = omega arith in
-    let l : length first ≡ length store = length-put store (block * dev .block) (pad (dev .block) bytes) (rw length-pad (omega arith)) in
-    blocks-into-put dev first (block + 1) n (drop (dev .block) bytes) (rw l (omega arith))
-    ∙ rw (e, put-more store (block * dev .block) (pad (dev .block) bytes) (pad (n * dev .block) (drop (dev .block) bytes)) (omega arith), f, pad-more)
-
-module _ (dev : Device) (store : List ℕ) (block n : ℕ) (bytes : List ℕ) (h : (block + n) * dev .block ≤ length store) where
-  -- the bytes put at once have as many places as the blocks
-  all-fit : block * dev .block + length (pad (n * dev .block) bytes) ≤ length store
-  all-fit = rw length-pad (omega arith)
-
-  pub get-blocks-into : (i : ℕ) → i < n * dev .block → getD (blocksInto dev store block n bytes) (block * dev .block + i) 0 ≡ getD bytes i 0
-  get-blocks-into i k = rw (blocks-into-put dev store block n bytes h) (get-in store _ (pad (n * dev .block) bytes) i all-fit (rw length-pad k) ∙ get-pad _ bytes i k)
-
-  pub get-blocks-before : (i : ℕ) → i < block * dev .block → getD (blocksInto dev store block n bytes) i 0 ≡ getD store i 0
-  get-blocks-before i k = rw (blocks-into-put dev store block n bytes h) (get-before store _ (pad (n * dev .block) bytes) i all-fit k)
-
-  pub get-blocks-after : (i : ℕ) → (block + n) * dev .block ≤ i → getD (blocksInto dev store block n bytes) i 0 ≡ getD store i 0
-  get-blocks-after i k = rw (blocks-into-put dev store block n bytes h) (get-after store _ (pad (n * dev .block) bytes) i all-fit (rw length-pad (omega arith)))
 
 -- one block after another, as they are read and stored
 

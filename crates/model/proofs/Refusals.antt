@@ -64,10 +64,6 @@ pub record Untouched (s : State) (main store : List ℕ) (o : Out) : Type 0 wher
   pub unit-check : SameButSense (s .unit) (o .done .state .unit)
   pub program-check : kindOf (o .done .cause) ≡ ProgramCheck → o .done .state .unit ≡ s .unit
 
--- the parameters show in cause 39 alone
-pub refusal-any : (s : State) (w : ℕ) (p q : List ℕ) → (w ≡ 39 → ⊥) → refusal s w p ≡ refusal s w q
-refusal-any s w p q n = ap (λ (t : State). record { state = t; cause = w; moved = 0; can = 0; blocks = 0 }) (leaves-any (kindOf w) s w p q n)
-
 refused-untouched : (c : Ccw) (s : State) (main store : List ℕ) (w : ℕ) → Untouched s main store (refused c s main store w)
 unfolding refused after withSense
 refused-untouched c s main store w =

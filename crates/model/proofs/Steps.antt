@@ -1,5 +1,5 @@
 -- Laws of `step`: a command is refused, or accepted as one of nine. Callers use these, not its text.
---     step-accepted, step-refused   by the verdict
+--     step-refused                  by the verdict
 --     Admitted                      what a command is known to have where the channel passed it on
 --     past-channel                  a verdict that the channel and the unit do not give is the command's own
 --     own-as, accepted-as           the table and the effect of each command
@@ -94,10 +94,6 @@ module _ (dev : Device) (c : Ccw) (s : State) (main store : List ℕ) where
   performed-as = record { no-operation = λ e. rw e; define-extent = λ e. rw e; locate = λ e. rw e; read = λ e. rw e; write = λ e. rw e; read-ipl = λ e. rw e; sense = λ e. rw e; sense-type = λ e. rw e; read-log = λ e. rw e }
 
 module _ (dev : Device) (c : Ccw) (s : State) (main store : List ℕ) where
-  pub step-accepted : verdict dev c s main store ≡ 0 → step dev c s main store ≡ accepted dev c (seen c s) main store
-  unfolding step decided
-  step-accepted e = pick-true _ _ _ (eq-eqb _ _ e)
-
   pub step-refused : (verdict dev c s main store ≡ 0 → ⊥) → step dev c s main store ≡ refused c s main store (verdict dev c s main store)
   unfolding step decided
   step-refused n = pick-false _ _ _ (ne-eqb _ _ n)

@@ -1,6 +1,8 @@
 // The unit record: what the unit keeps from one chain to the next.
+use crate::sizes;
+
 pub struct Record {
-    pub sense: [u8; 24],
+    pub sense: [u8; sizes::SENSE],
     pub blocks_read: [u8; 3],
     pub blocks_written: [u8; 3],
     pub movements: [u8; 2],

@@ -1,9 +1,17 @@
-// The bytes of what is lent (01, What is lent).
+// The bytes of what is lent (01, What is lent), and of what commands take and send.
 pub const CCW: usize = 8;
 
 pub const ANSWER: usize = 8;
 
 pub const RECORD: usize = 34;
+
+// The parameters of DEFINE EXTENT and of LOCATE.
+pub const EXTENT: usize = 16;
+
+pub const LOCATE: usize = 8;
+
+// Sense, and the log.
+pub const SENSE: usize = 24;
 
 // Of class A.
 pub const BLOCK: usize = 512;

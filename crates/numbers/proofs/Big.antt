@@ -18,14 +18,5 @@ bytes3-are n = bytes-cons _ _ (omega arith) (bytes-cons _ _ (omega arith) (bytes
 pub bytes2-hold : (n : ℕ) → n < 65536 → be2 (bytes2 n) 0 ≡ n
 bytes2-hold n h = omega arith
 
-pub bytes3-hold : (n : ℕ) → n < 16777216 → be3 (bytes3 n) 0 ≡ n
-bytes3-hold n h = omega arith
-
 pub be2-fits : (l : List ℕ) (at : ℕ) → AreBytes l → be2 l at < 65536
 be2-fits l at p = omega (arith, byte-at l at p, byte-at l (at + 1) p)
-
-pub be3-fits : (l : List ℕ) (at : ℕ) → AreBytes l → be3 l at < 16777216
-be3-fits l at p = omega (arith, byte-at l at p, byte-at l (at + 1) p, byte-at l (at + 2) p)
-
-pub be4-fits : (l : List ℕ) (at : ℕ) → AreBytes l → be4 l at < 4294967296
-be4-fits l at p = omega (arith, byte-at l at p, byte-at l (at + 1) p, byte-at l (at + 2) p, byte-at l (at + 3) p)

@@ -2,6 +2,7 @@
 // (`pack_left`) or makes another record (`record_left`). Nothing is refused.
 use model::kind::Kind;
 use model::record::Record;
+use model::sizes;
 use sense_table::sense_of;
 use slices::clear;
 use slices::copy;
@@ -17,7 +18,7 @@ ghost use Rattle.model.specs.Log.{withCounts};
 ghost use Rattle.unit_state.specs.Standing.{stateLeft};
 
 // Where each field stands in the bytes; sense is first, up to the first count.
-const BLOCKS_READ: usize = 24;
+const BLOCKS_READ: usize = sizes::SENSE;
 
 const BLOCKS_WRITTEN: usize = 27;
 
@@ -48,8 +49,8 @@ pub fn unpack(s: &[u8]) -> Record
     requires { ⌜ length (now s) ≡ recordSize ⌝ }
     ensures { λ r. ⌜ r ≡ recordOf (now (s .entry)) ⌝ }
 {
-    let mut sense = [0u8; 24];
-    copy(s, &mut sense, 24);
+    let mut sense = [0u8; sizes::SENSE];
+    copy(s, &mut sense, sizes::SENSE);
     Record {
         sense: sense,
         blocks_read: three(s, BLOCKS_READ),
@@ -81,7 +82,7 @@ pub fn pack(u: Record, to: &mut [u8])
     let movements = u.movements;
     to[READY] = u.ready;
     to[READ_ONLY] = u.read_only;
-    put_at(to, 0, &sense, 24);
+    put_at(to, 0, &sense, sizes::SENSE);
     put_counts(read, written, movements, to);
 }
 
@@ -94,7 +95,7 @@ fn put_sense(l: Left, to: &mut [u8])
     match Kind::of(l.cause) {
         Kind::UnitCheck => {
             let sense = sense_of(l.cause, parameters);
-            copy(&sense, to, 24);
+            copy(&sense, to, sizes::SENSE);
         }
         Kind::Accepted | Kind::ProgramCheck => {
             if !l.state.kept {
@@ -142,7 +143,7 @@ pub fn new_record(ready: u8, read_only: u8) -> Record
     ensures { λ r. ⌜ r ≡ newRecord ready «read_only» ⌝ }
 {
     Record {
-        sense: [0u8; 24],
+        sense: [0u8; sizes::SENSE],
         blocks_read: [0u8; 3],
         blocks_written: [0u8; 3],
         movements: [0u8; 2],
@@ -152,7 +153,7 @@ pub fn new_record(ready: u8, read_only: u8) -> Record
 }
 
 // Whether two senses are the same.
-pub fn same_sense(a: [u8; 24], b: [u8; 24]) -> bool
+pub fn same_sense(a: [u8; sizes::SENSE], b: [u8; sizes::SENSE]) -> bool
     ensures { λ r. ⌜ (r ≡ true → a ≡ b) × (a ≡ b → r ≡ true) ⌝ }
 {
     check::same(&a, &b)

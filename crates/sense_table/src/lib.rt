@@ -1,4 +1,5 @@
 // The sense of a refusal, from one table indexed by cause; `sense_of` is the way in. docs/SENSE.md says why each row is what it is.
+use model::sizes;
 use slices::put_at;
 ghost use mathlib.Core.Path.{_≡_};
 ghost use Rattle.model.specs.Sense.{senseTable, rowIn, senseOf};
@@ -81,7 +82,7 @@ fn row_of(cause: u8) -> SenseRow
 }
 
 // The 24 sense bytes of a cause. `parameters` are the LOCATE's, which 39 alone shows.
-pub fn sense_of(cause: u8, parameters: [u8; 8]) -> [u8; 24]
+pub fn sense_of(cause: u8, parameters: [u8; sizes::LOCATE]) -> [u8; sizes::SENSE]
     ensures { λ r. ⌜ r ≡ senseOf cause parameters ⌝ }
 {
     let row = row_of(cause);
@@ -89,10 +90,10 @@ pub fn sense_of(cause: u8, parameters: [u8; 8]) -> [u8; 24]
     head[0] = row.0;
     head[1] = row.1;
     head[SenseRow::FORMAT] = row.2;
-    let mut sense = [0u8; 24];
+    let mut sense = [0u8; sizes::SENSE];
     put_at(&mut sense, 0, &head, SenseRow::PARAMETERS);
     if cause == 39 {
-        put_at(&mut sense, SenseRow::PARAMETERS, &parameters, 8);
+        put_at(&mut sense, SenseRow::PARAMETERS, &parameters, sizes::LOCATE);
     }
     sense
 }

@@ -41,19 +41,6 @@ length-pad n bytes = simp (length-append, length-take, length-zeros) (omega arit
 
 -- `pad`, one byte at a time
 
-pub pad-zero : (bytes : List ℕ) → pad zero bytes ≡ []
-unfolding pad zeros
-pad-zero bytes = rw zero-sub
-
-pad-nil : (n : ℕ) → pad (suc n) [] ≡ 0 ∷ pad n []
-unfolding pad zeros
-pad-nil zero = refl
-pad-nil (suc n) = simp sub-zero
-
-pad-cons : (n b : ℕ) (bytes : List ℕ) → pad (suc n) (b ∷ bytes) ≡ b ∷ pad n bytes
-unfolding pad zeros
-pad-cons n b bytes = rw suc-sub-suc
-
 -- what is read at a place before, in and after the bytes that were put
 
 pub get-before : (l : List ℕ) (at : ℕ) (bytes : List ℕ) (i : ℕ) → at + length bytes ≤ length l → i < at → getD (put l at bytes) i 0 ≡ getD l i 0
@@ -129,14 +116,6 @@ pub part-put : (l : List ℕ) (at : ℕ) (bytes : List ℕ) → at + length byte
 unfolding put
 part-put l at bytes h = rw append-assoc (part-between (take at l) bytes _ at (length bytes) (length-take-le at l (omega arith)) refl)
 
--- past the bytes that were given a padded list reads zero, as `getD` does
-pub get-pad : (n : ℕ) (bytes : List ℕ) (i : ℕ) → i < n → getD (pad n bytes) i 0 ≡ getD bytes i 0
-get-pad zero bytes i h = absurd (omega arith)
-get-pad (suc n) [] zero h = rw pad-nil
-get-pad (suc n) [] (suc i) h = rw pad-nil (get-pad n [] i (omega arith))
-get-pad (suc n) (b ∷ bytes) zero h = rw pad-cons
-get-pad (suc n) (b ∷ bytes) (suc i) h = rw pad-cons (get-pad n bytes i (omega arith))
-
 -- what stands before a part, and the part
 pub take-part : (l : List ℕ) (at n : ℕ) → take at l ++ part l at n ≡ take (at + n) l
 unfolding part
@@ -163,11 +142,6 @@ put-more l at bytes more h =
     let front : List ℕ = take at l ++ bytes in
     let e : length front ≡ n = length-append (take at l) bytes ∙ ap (λ (k : ℕ). k + length bytes) (length-take-le at l h) in
     rw (take-at front (drop n l) n e, ← drop-drop (length more) n (front ++ drop n l), drop-at front (drop n l) n e, drop-drop, length-append, ← add-assoc) (simp append-assoc)
-
-pub pad-more : (m n : ℕ) (bytes : List ℕ) → pad (m + n) bytes ≡ pad m bytes ++ pad n (drop m bytes)
-pad-more zero n bytes = rw (zero-add, pad-zero)
-pad-more (suc m) n [] = simp (suc-add, pad-nil, pad-more m n [], drop-nil)
-pad-more (suc m) n (b ∷ bytes) = simp (suc-add, pad-cons, pad-more m n bytes)
 
 -- the first byte of a part, and the rest of it
 pub part-cons : (l : List ℕ) (at n : ℕ) → at < length l → part l at (suc n) ≡ getD l at 0 ∷ part l (at + 1) n
@@ -244,15 +218,6 @@ pub take-fits : (n : ℕ) (l : List ℕ) → take (min n (length l)) l ≡ take 
 take-fits zero l = rw zero-min
 take-fits (suc n) [] = rw min-zero
 take-fits (suc n) (b ∷ l) = rw (suc-min-suc, take-fits n l)
-
-pub drop-fits : (n : ℕ) (l : List ℕ) → drop (min n (length l)) l ≡ drop n l
-drop-fits zero l = rw zero-min
-drop-fits (suc n) [] = rw min-zero
-drop-fits (suc n) (b ∷ l) = rw suc-min-suc (drop-fits n l)
-
--- what `&l[used..]` lends, where `used` bytes fitted
-pub rest-fits : (n used : ℕ) (l : List ℕ) → used ≡ min n (length l) → midOf used (length l - used) l ≡ drop n l
-rest-fits n used l e = rest-lent l used ∙ rw e (drop-fits n l)
 
 pub pad-fits : (n : ℕ) (l : List ℕ) → take (min n (length l)) l ++ zeros (n - min n (length l)) ≡ pad n l
 unfolding pad

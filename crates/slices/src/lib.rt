@@ -1,9 +1,8 @@
-// How bytes move between slices: copied, cleared, filled, put at a place. Nothing here is refused: a caller proves that what it names is there.
-// `put_at` is the way into main storage and the store, `fill` the way into blocks.
+// How bytes move between slices: copied, cleared, put at a place. Nothing here is refused: a caller proves that what it names is there.
 ghost use mathlib.Core.Path.{_≡_};
 ghost use Prim.Native.Nat.{_+_, _≤_, min};
 ghost use lib.ListN.{length, take};
-ghost use Rattle.slices.specs.Parts.{zeros, put, pad};
+ghost use Rattle.slices.specs.Parts.{zeros, put};
 
 // The lesser of two.
 pub fn least(a: usize, b: usize) -> usize
@@ -41,16 +40,6 @@ pub fn clear(to: &mut [u8])
     for i in 0..to.len() {
         to[i] = 0;
     }
-}
-
-// The block holds the bytes of `from` that it has room for, and then zeros.
-pub fn fill(block: &mut [u8], from: &[u8])
-    requires { ⌜ length (now from) ≤ 65536 ⌝ }
-    ensures { λ _. ⌜ now (block .exit) ≡ pad (length (now (block .entry))) (now (from .entry)) ⌝ }
-{
-    let n = least(block.len(), from.len());
-    copy(from, block, n);
-    clear(&mut block[n..]);
 }
 
 // The first n bytes of `from` go to `to`, from `at` on.

@@ -6,18 +6,19 @@ use model::extent::Located;
 use model::extent::Offset;
 use model::record::Counts;
 use model::record::Record;
+use model::sizes;
 use model::state::Before;
 ghost use mathlib.Core.Path.{_≡_};
 ghost use Rattle.unit_state.specs.Standing.{started, wentOn, withExtent, withLocate, passedOn, senseNow};
 
 // `kept`: the pending sense is still what the chain found; else there is none.
 pub struct Running {
-    pub defined: bool,
-    pub kept: bool,
-    pub before: Before,
-    pub located: Located,
     pub extent: Extent,
+    pub located: Located,
     pub counts: Counts,
+    pub before: Before,
+    pub kept: bool,
+    pub defined: bool,
 }
 
 // No extent, and no command before: nothing is kept from an earlier chain but the record.
@@ -51,10 +52,10 @@ pub fn start(u: Record) -> Running
 }
 
 // The pending sense, in a chain that found this one.
-pub fn sense_now(found: [u8; 24], kept: bool) -> [u8; 24]
+pub fn sense_now(found: [u8; sizes::SENSE], kept: bool) -> [u8; sizes::SENSE]
     ensures { λ r. ⌜ r ≡ senseNow found kept ⌝ }
 {
-    if kept { found } else { [0u8; 24] }
+    if kept { found } else { [0u8; sizes::SENSE] }
 }
 
 // The state after a command that zeroed the sense: these counts, and what the next command has before it.
@@ -143,6 +144,6 @@ pub fn carried(s: Running) -> Running
 // A refused command has the state here that it found.
 pub struct Left {
     pub state: Running,
-    pub parameters: [u8; 8],
+    pub parameters: [u8; sizes::LOCATE],
     pub cause: u8,
 }

@@ -6,6 +6,7 @@ use crate::words;
 use crate::words::Vector;
 use in_place::Ran;
 use model::record::Record;
+use model::sizes;
 use record::same_count;
 use record::same_sense;
 
@@ -48,7 +49,7 @@ fn store_bytes(setting: u64) -> usize {
     let which = setting / 16 % 4;
     match which {
         0 => 4096,
-        1 => 512,
+        1 => sizes::BLOCK,
         2 => 0,
         _ => 513,
     }

@@ -3,6 +3,7 @@ ghost use Prim.Native.Nat.{_<_};
 use in_place::Ran;
 use libc::STDOUT_FILENO;
 use model::record::Record;
+use model::sizes;
 
 pub fn text(t: &[u8]) {
     io::write_all(STDOUT_FILENO, t);
@@ -64,7 +65,7 @@ fn answer(s: &[u8], from: usize)
 fn answers(s: &[u8], reached: u8) {
     let mut i: u8 = 0;
     while i < reached {
-        answer(s, i as usize * 8);
+        answer(s, i as usize * sizes::ANSWER);
         i += 1;
     }
 }

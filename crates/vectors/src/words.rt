@@ -1,5 +1,6 @@
 // Tables of vectors, taken apart, and words as bytes. No read fails: past a table's end all words are
 // 0.
+use model::sizes;
 ghost use Prim.Native.Nat.{_<_, _≤_};
 ghost use lib.ListN.{length};
 
@@ -106,7 +107,7 @@ pub fn fill(s: &mut [u8], b: u8) {
 pub fn number_blocks(s: &mut [u8]) {
     let mut i = 0;
     while i < s.len() {
-        s[i] = (i / 512 % 256) as u8;
+        s[i] = (i / sizes::BLOCK % 256) as u8;
         i += 1;
     }
 }

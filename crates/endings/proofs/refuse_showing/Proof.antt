@@ -1,0 +1,13 @@
+-- `refuse_showing` meets its contract. Assumes nothing.
+use borrow.Author.Needs.{needs}
+use Rattle.endings.proofs.refuse_showing.Statement.{statement}
+use Rattle.endings.proofs.refuse_showing.Tie as tie
+
+returns : tie.Need-returns
+returns c = c .end .ensures
+
+pub refuse-showing-spec : {M : Type 1} → statement M
+refuse-showing-spec = tie.close
+    (tie.spec
+    (search needs)  -- end-requires
+    returns)
