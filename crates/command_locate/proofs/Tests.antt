@@ -1,8 +1,8 @@
 -- What the code tests, and the rule's own words for it. No contract cites this file.
 use Prim.Native.Nat.{ℕ, _/_, _^_, _≤_, _<_}
-use mathlib.Core.Path.{_≡_, refl, sym, subst}
+use mathlib.Core.Path.{_≡_, sym, subst}
 use mathlib.Core.Bool.{Bool, true, false, not, _&&_, _||_}
-use mathlib.Core.List.{List, [], _∷_}
+use mathlib.Core.List.{[], _∷_}
 use lib.Bits.{bitAnd}
 use lib.Dec.{T, ltb, leb, eqb, lit≤}
 use lib.ListN.{getD, List·getD-eq-default}

@@ -5,10 +5,9 @@
 --     refused-by, accepted-by, decided-by
 --                                    the same, whole: by a cause without parameters; accepted; by the parameters of DEFINE EXTENT or LOCATE
 use Prim.Native.Nat.{ℕ, _-_}
-use mathlib.Core.Path.{_≡_, refl, sym, ap, _∙_}
+use mathlib.Core.Path.{_≡_, refl, sym}
 use mathlib.Core.Bool.{false, _&&_}
 use mathlib.Core.List.{List}
-use native.Mathlib.Nat.{sub-zero}
 use borrow.Author.Tests.{eqb-false, ne-eqb}
 use Rattle.numbers.specs.Choice.{_=?_, pick}
 use Rattle.numbers.proofs.Choice.{pick-ind, pick-true, pick-false, pick-both}

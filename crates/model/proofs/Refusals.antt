@@ -6,7 +6,7 @@
 --                       alone; where it is a program check, nothing
 -- Assumes nothing.
 use Prim.Native.Nat.{ℕ, _/_}
-use mathlib.Core.Path.{_≡_, refl, ap, _∙_}
+use mathlib.Core.Path.{_≡_, refl, _∙_}
 use mathlib.Core.List.{List}
 use lib.ListN.{length}
 use borrow.Author.Tests.{ne-eqb}
@@ -20,11 +20,11 @@ use Rattle.model.specs.Rules.{firstOf}
 use Rattle.model.specs.Lent.{ccwSize, fetched}
 use Rattle.model.specs.Causes.{callCauses, hostCauses, kindOf, verdict}
 use Rattle.model.specs.Log.{withSense}
-use Rattle.model.specs.Commands.{Out, after, refused, refusal, step}
+use Rattle.model.specs.Commands.{Out, after, refused, step}
 use Rattle.model.specs.Chain.{called, callOf, start, system, run}
 use Rattle.model.specs.Host.{resultOf, hostCallOf}
 use Rattle.model.specs.Parameters.{locateLength}
-use Rattle.model.proofs.Leaving.{leaves-ind, leaves-any}
+use Rattle.model.proofs.Leaving.{leaves-ind}
 use Rattle.model.proofs.Steps.{step-cause, step-refused}
 
 -- the call

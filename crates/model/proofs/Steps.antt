@@ -13,7 +13,7 @@ use mathlib.Core.Bool.{Bool, true, false, not, _||_, false≢true}
 use mathlib.Core.List.{List, [], _∷_, _++_}
 use lib.ListN.{length}
 use native.Mathlib.Omega.{arith}
-use borrow.Author.Tests.{eqb-true, eqb-false, eq-eqb, ne-eqb, ltb-false, not-false}
+use borrow.Author.Tests.{eqb-true, eqb-false, ne-eqb, ltb-false, not-false}
 use Rattle.model.specs.declared.ccw.Ccw.{Ccw}
 use Rattle.model.specs.declared.device.Device.{Device}
 use Rattle.model.specs.State.{State}

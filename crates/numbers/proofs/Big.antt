@@ -5,7 +5,7 @@ use mathlib.Core.Path.{_≡_}
 use mathlib.Core.List.{List}
 use native.Mathlib.Omega.{arith}
 use Rattle.numbers.specs.Bytes.{AreBytes}
-use Rattle.numbers.specs.Big.{be2, be3, be4, bytes2, bytes3}
+use Rattle.numbers.specs.Big.{be2, bytes2, bytes3}
 use Rattle.numbers.proofs.Bytes.{bytes-nil, bytes-cons, byte-at}
 
 pub bytes2-are : (n : ℕ) → AreBytes (bytes2 n)

@@ -1,7 +1,7 @@
 -- Laws of `zeros`, `part`, `put` and `pad`: their lengths, what is read at a place, bytes after others, parts that were lent, and that bytes stay bytes.
 -- No contract cites this file.
 use Prim.Native.Nat.{ℕ, zero, suc, _+_, _-_, _≤_, _<_, min}
-use native.Mathlib.Nat.{zero-add, add-zero, suc-add, add-assoc, zero-min, min-zero, suc-min-suc, sub-zero, zero-sub, suc-sub-suc}
+use native.Mathlib.Nat.{zero-add, add-zero, add-assoc, zero-min, min-zero, suc-min-suc, sub-zero, zero-sub, suc-sub-suc}
 use mathlib.Core.Path.{_≡_, refl, sym, ap, _∙_}
 use mathlib.Core.Logic.{_⊎_, ⊎-elim}
 use mathlib.Core.Bool.{Bool, true, false}
@@ -10,7 +10,7 @@ use native.Mathlib.Numerals.{add-one}
 use native.Mathlib.Omega.{arith}
 use lib.Dec.{ltb}
 use lib.ListN.{length, getD, set, take, drop, length-append, length-take, length-drop, length-replicate, take-append-drop, drop-of-length-le, List·getD-append}
-use lib.Seq.{take-nil, ext-getD, set-append-seam, length-take-le, take-length, take-all, drop-nil, drop-length, drop-drop, drop-cons, drop-append-le, take-add, take-at, drop-at, getD-take, getD-drop, getD-append-add}
+use lib.Seq.{take-nil, ext-getD, set-append-seam, length-take-le, take-length, take-all, drop-length, drop-drop, drop-cons, drop-append-le, take-add, take-at, drop-at, getD-take, getD-drop, getD-append-add}
 use borrow.Author.Fill.{fill-more}
 use borrow.Author.Tests.{ltb-true, ltb-false}
 use borrow.Rule.Slice.PartMut.{midOf, putMid, mid-len, post-is}

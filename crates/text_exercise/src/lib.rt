@@ -15,10 +15,10 @@ ghost use mathlib.Core.Path.{_≡_};
 ghost use Prim.Native.Nat.{_*_, _≤_};
 ghost use lib.ListN.{length};
 ghost use Rattle.slices.specs.Parts.{zeros};
-ghost use Rattle.model.specs.Chain.{Called, call, classA};
+ghost use Rattle.model.specs.Chain.{call, classA};
 ghost use Rattle.text_digits.specs.Output.{Adds};
 ghost use Rattle.text_output.specs.Printout.{printout};
-ghost use Rattle.text_input.specs.Format.{mostBlocks, mostStorage, mostChain, lines, wrongLine, Exercise, exerciseIn};
+ghost use Rattle.text_input.specs.Format.{mostBlocks, mostStorage, mostChain, lines, wrongLine, exerciseIn};
 ghost use Rattle.text_exercise.specs.Exercise.{device, mostStore, exercised, exercise};
 
 // The bytes of the largest store.

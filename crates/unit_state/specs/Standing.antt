@@ -6,7 +6,7 @@
 --     stateLeft                   the state that a `Left` stands for: how its cause leaves the one that is carried
 --     Sound                       a device that a chain may run on, and a state that is safe on it, whatever record the chain found
 --     Handed                      the CCW of a command that the channel passed on: its data area is in main storage
--- The layers between the ways in ask each other for `Sound` and `Handed`, and for nothing else. Assumes nothing.
+-- The run, the unit and the commands ask each other for `Sound` and `Handed`. Assumes nothing.
 use Prim.Native.Nat.{ℕ, _+_, _≤_, _<_}
 use mathlib.Core.Bool.{Bool, true, false}
 use mathlib.Core.List.{List}

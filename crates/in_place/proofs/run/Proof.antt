@@ -41,7 +41,7 @@ use denote.Triple.Table.{entered, cited}
 use denote.Triple.Clauses.{ensured, lasts}
 use denote.Triple.Walked.{says, Stays, stay-ref, stay-none-slice, gave-slice, walkOf, AllGo, goes-ref, goes-none-slice, goes-gave-slice, Walks, ends-at, walked, walk-meets}
 use denote.Exit.{yes}
-use Rattle.in_place.specs.Run.{ByValue, InPlace}
+use Rattle.in_place.specs.Run.{ByValue}
 use Rattle.in_place.proofs.Lent.{mach, slice}
 use Rattle.model.specs.declared.record.Record.{Record}
 use Rattle.in_place.specs.declared.Ran.{Ran}

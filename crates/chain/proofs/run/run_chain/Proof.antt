@@ -6,7 +6,6 @@ use borrow.Author.Tests.{not-true, not-false}
 use Rattle.slices.specs.Parts.{zeros}
 use Rattle.unit_state.specs.Standing.{Sound}
 use Rattle.chain.proofs.Runs.{Underway, underway-start, underway-next, underway-stop, underway-done, sound-same}
-use borrow.Author.Needs.{needs}
 use Rattle.chain.proofs.run.run_chain.Statement.{statement}
 use Rattle.chain.proofs.run.run_chain.Tie as tie
 
