@@ -1,5 +1,5 @@
 -- What a run does, as one equation: the record, the result, and each lent slice afterwards.
---     Outcome, outcome   all of it, by the definition's call
+--     Outcome, outcome   all of it, by the definition's call; given   of a call that is known
 --     ByValue            the run by value gives the outcome
 --     InPlace            so does the run in place, with the record as it then is
 -- Assumes nothing.

@@ -1,5 +1,9 @@
 -- The answer to one command (01, What is lent: Answers), and whether the chain goes on after it.
---     unitStatus, channelStatus, answerOf, goesOn
+--     unitStatus, channelStatus   the two statuses, by how the command ended; channelBy   with the length right or wrong
+--     wrongLength                 the count is not what the command can move
+--     residual                    what is left of the count
+--     answerOf, answerSize        the answer's bytes, and how many they are
+--     goesOn                      the chain goes on after it
 -- Assumes nothing.
 use Prim.Native.Nat.{ℕ, _-_}
 use mathlib.Core.Bool.{Bool, true, false, not, _&&_}

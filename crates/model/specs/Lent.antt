@@ -1,12 +1,14 @@
 -- What is lent (01, What is lent), and how each of it is reached.
---     ccwAt                   a CCW of the chain, taken apart
+--     ccwAt, ccwSize          a CCW of the chain, taken apart, and its bytes
 --     flag                    a flag of a CCW is on
 --     fetched, delivered      bytes from, and to, a command's data area in main storage
 --     blockStart              where a block of the store begins; blocks are reached by this and by nothing else
 --     blockCount              the device's blocks
 --     blockAt                 the bytes of a block: what READ shows of it
 --     blocksFrom, blocksInto  some blocks from one on: as READ sees them, and as WRITE leaves them
---     recordBytes, recordOf   the unit record and its 34 bytes
+--     recordBytes, recordOf, recordSize
+--                             the unit record and its 34 bytes
+--     newRecord               the record of a new unit
 -- `dev` is the device: its numbers, one value. Assumes nothing.
 use Prim.Native.Nat.{ℕ, zero, suc, _+_, _*_, _/_}
 use mathlib.Core.Bool.{Bool}

@@ -8,7 +8,7 @@ use lib.Seq.{take-all}
 use borrow.Author.Tests.{eqb-true}
 use Rattle.numbers.proofs.Choice.{pick-both}
 use Rattle.text_output.specs.Printout.{printout}
-use Rattle.text_input.specs.Format.{lines, wrongLine, exerciseIn}
+use Rattle.text_input.specs.Input.{lines, wrongLine, exerciseIn}
 use Rattle.text_input.proofs.Cuts.{wrong-cut, right-fits}
 use Rattle.text_exercise.specs.Exercise.{exercised, exercise}
 

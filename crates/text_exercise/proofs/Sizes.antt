@@ -23,7 +23,7 @@ use Rattle.in_place.proofs.Reached.{reached-few}
 use Rattle.text_digits.specs.Digits.{sixDigits}
 use Rattle.text_output.specs.Printout.{printout}
 use Rattle.text_output.proofs.Sizes.{mostPrinted, printout-within, refused-within}
-use Rattle.text_input.specs.Format.{lines, wrongLine, Exercise, exerciseIn}
+use Rattle.text_input.specs.Input.{lines, wrongLine, Exercise, exerciseIn}
 use Rattle.text_input.proofs.Sizes.{wrong-few, settings-few, storage-bytes, storage-few, chain-bytes}
 use Rattle.text_input.proofs.Rights.{few-blocks}
 use Rattle.text_exercise.specs.Exercise.{device, exercised, exercise}

@@ -9,7 +9,7 @@ use mathlib.Core.List.{List, [], _∷_, _++_, map}
 use Rattle.model.proofs.Opened.{opened}
 use Rattle.text_digits.specs.Digits.{ascii, digit, decimalOf, decimal, hex, valueOf, isDigit, allDigits, isHex, bytesIn, same}
 use Rattle.text_output.specs.Printout.{line, statusLines, countLines, commandLines, printoutOf}
-use Rattle.text_input.specs.Format.{lines, keyed, value, numberIn, numberOf, bytesOf, hexLine, rightLine, wrongFrom, wrongLine, chainIn, exerciseIn}
+use Rattle.text_input.specs.Input.{lines, keyed, value, numberIn, numberOf, bytesOf, hexLine, rightLine, wrongFrom, wrongLine, chainIn, exerciseIn}
 use Rattle.text_exercise.specs.Exercise.{device, exercised, exercise}
 
 pub record Example : Type 0 where

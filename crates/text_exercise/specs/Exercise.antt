@@ -11,7 +11,7 @@ use Rattle.slices.specs.Parts.{zeros}
 use Rattle.numbers.specs.Choice.{_=?_, pick}
 use Rattle.model.specs.Lent.{newRecord}
 use Rattle.model.specs.Chain.{Called, call, classA}
-use Rattle.text_input.specs.Format.{mostBlocks, lines, wrongLine, Exercise, exerciseIn}
+use Rattle.text_input.specs.Input.{mostBlocks, lines, wrongLine, Exercise, exerciseIn}
 use Rattle.text_output.specs.Printout.{refusedLine, printout}
 
 unfoldable pub device : ℕ → List ℕ

@@ -18,7 +18,7 @@ ghost use Rattle.slices.specs.Parts.{zeros};
 ghost use Rattle.model.specs.Chain.{call, classA};
 ghost use Rattle.text_digits.specs.Output.{Adds};
 ghost use Rattle.text_output.specs.Printout.{printout};
-ghost use Rattle.text_input.specs.Format.{mostBlocks, mostStorage, mostChain, lines, wrongLine, exerciseIn};
+ghost use Rattle.text_input.specs.Input.{mostBlocks, mostStorage, mostChain, lines, wrongLine, exerciseIn};
 ghost use Rattle.text_exercise.specs.Exercise.{device, mostStore, exercised, exercise};
 
 // The bytes of the largest store.

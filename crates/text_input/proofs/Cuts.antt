@@ -18,7 +18,7 @@ use Rattle.numbers.proofs.Choice.{pick-ind, pick-both}
 use Rattle.text_digits.specs.Digits.{decimal, sixDigits, same}
 use Rattle.text_digits.proofs.Numbers.{decimal-short, same-true}
 use Rattle.text_output.specs.Printout.{lineFeed}
-use Rattle.text_input.specs.Format.{Field, lines, blocks, ready, readonly, storage, ccw, keyed, value, numberIn, numberOf, numberLine, rightLine, wrongFrom, wrongLine}
+use Rattle.text_input.specs.Input.{Field, lines, blocks, ready, readonly, storage, ccw, keyed, value, numberIn, numberOf, numberLine, rightLine, wrongFrom, wrongLine}
 use Rattle.text_input.specs.Reads.{lineLength}
 use Rattle.text_input.proofs.Lines.{cons-lines, line-fits, some-line}
 use Rattle.text_input.proofs.Values.{length-value, keyed-long}

@@ -14,7 +14,7 @@ use Rattle.slices.specs.Parts.{part}
 use Rattle.numbers.specs.Choice.{pick}
 use Rattle.numbers.proofs.Choice.{pick-ind}
 use Rattle.text_output.specs.Printout.{lineFeed}
-use Rattle.text_input.specs.Format.{onto, lines, rightLine, wrongFrom}
+use Rattle.text_input.specs.Input.{onto, lines, rightLine, wrongFrom}
 use Rattle.text_input.specs.Reads.{lineLength}
 
 -- the length of a line

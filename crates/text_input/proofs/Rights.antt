@@ -16,7 +16,7 @@ use Rattle.numbers.specs.Choice.{pick}
 use Rattle.text_digits.specs.Digits.{isHex, bytesIn}
 use Rattle.numbers.proofs.Choice.{pick-ind}
 use Rattle.numbers.proofs.Joined.{both-true}
-use Rattle.text_input.specs.Format.{Field, lines, blocks, numberOf, storage, ccw, value, bytesOf, hexLine, lastCcw, rightLine, wrongFrom, wrongLine, chainIn, exerciseIn}
+use Rattle.text_input.specs.Input.{Field, lines, blocks, numberOf, storage, ccw, value, bytesOf, hexLine, lastCcw, rightLine, wrongFrom, wrongLine, chainIn, exerciseIn}
 use Rattle.text_input.specs.Reads.{lineLength, held, ReadTo}
 use Rattle.text_input.proofs.Lines.{no-lines, lines-at}
 use Rattle.text_input.proofs.Values.{length-value, keyed-long}

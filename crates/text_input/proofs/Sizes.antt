@@ -10,7 +10,7 @@ use Rattle.numbers.specs.Bytes.{AreBytes}
 use Rattle.numbers.proofs.Bytes.{bytes-nil, bytes-cons, bytes-append}
 use Rattle.numbers.proofs.Choice.{pick-ind}
 use Rattle.text_digits.specs.Digits.{valueOf, bytesIn}
-use Rattle.text_input.specs.Format.{lines, mostStorage, ready, readonly, storage, bytesOf, rightLine, wrongFrom, wrongLine, chainIn, exerciseIn}
+use Rattle.text_input.specs.Input.{lines, mostStorage, ready, readonly, storage, bytesOf, rightLine, wrongFrom, wrongLine, chainIn, exerciseIn}
 use Rattle.text_input.proofs.Values.{length-value, number-bounded}
 use Rattle.text_input.proofs.Reading.{decoded-length}
 use Rattle.text_input.proofs.Rights.{storage-line, ccw-right, hex-is}

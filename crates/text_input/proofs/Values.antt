@@ -15,7 +15,7 @@ use Rattle.numbers.specs.Choice.{pick}
 use Rattle.numbers.proofs.Choice.{pick-ind}
 use Rattle.text_digits.specs.Digits.{decimal, isHex, same}
 use Rattle.numbers.proofs.Joined.{both-true}
-use Rattle.text_input.specs.Format.{field, keyed, value, numberIn, numberOf, hexLine}
+use Rattle.text_input.specs.Input.{field, keyed, value, numberIn, numberOf, hexLine}
 
 -- a line that has a key is longer than it
 pub keyed-long : (key l : List ℕ) (r : Bool) → r ≡ keyed key l → r ≡ true → length key < length l

@@ -10,7 +10,7 @@ ghost use Prim.Native.Nat.{_+_, _-_, _≤_, _<_};
 ghost use lib.ListN.{length, getD, drop};
 ghost use Rattle.slices.specs.Parts.{part};
 ghost use Rattle.text_digits.specs.Digits.{bytesIn, sixDigits};
-ghost use Rattle.text_input.specs.Format.{lines, field, mostStorage, keyed, numberIn, numberOf, hexLine, rightLine, wrongLine, mostChain, exerciseIn};
+ghost use Rattle.text_input.specs.Input.{lines, field, mostStorage, keyed, numberIn, numberOf, hexLine, rightLine, wrongLine, mostChain, exerciseIn};
 ghost use Rattle.text_input.specs.Reads.{lineLength, held, ReadTo};
 
 const LINE_FEED: u8 = 0x0A;

@@ -5,7 +5,7 @@ use native.Mathlib.Omega.{arith}
 use mathlib.Core.Path.{_≡_, refl}
 use lib.ListN.{length, take}
 use Rattle.model.specs.Chain.{classA}
-use Rattle.text_input.specs.Format.{mostBlocks}
+use Rattle.text_input.specs.Input.{mostBlocks}
 use Rattle.text_exercise.specs.Exercise.{device}
 use Rattle.text_exercise.proofs.Devices.{device-more, device-whole}
 use borrow.Author.Needs.{needs}

@@ -7,7 +7,7 @@ use lib.ListN.{length, drop}
 use borrow.Rule.Slice.PartMut.{mid-len}
 use Rattle.slices.specs.Parts.{part}
 use Rattle.model.specs.Lent.{ccwSize}
-use Rattle.text_input.specs.Format.{lines, wrongFrom, mostChain, chainIn, exerciseIn}
+use Rattle.text_input.specs.Input.{lines, wrongFrom, mostChain, chainIn, exerciseIn}
 use Rattle.text_input.proofs.Lines.{line-ends-after}
 use Rattle.text_input.proofs.Reading.{Goes, goes-start, goes-done}
 use Rattle.text_input.proofs.Rights.{right-from, ccw-is, chain-more, chain-done}

@@ -4,7 +4,7 @@ use mathlib.Core.Path.{sym}
 use borrow.Author.Tests.{lt-ltb, le-ltb, eq-eqb, ne-eqb}
 use lib.Seq.{length-take-le}
 use Rattle.text_digits.proofs.Numbers.{told-same}
-use Rattle.text_input.specs.Format.{keyed}
+use Rattle.text_input.specs.Input.{keyed}
 use borrow.Author.Needs.{needs}
 use Rattle.text_input.proofs.keyed.Statement.{statement}
 use Rattle.text_input.proofs.keyed.Tie as tie

@@ -4,7 +4,7 @@ use Prim.Native.Nat.{_≤_, _-_}
 use native.Mathlib.Omega.{arith}
 use mathlib.Core.Path.{_≡_, refl}
 use lib.ListN.{length, drop}
-use Rattle.text_input.specs.Format.{lines}
+use Rattle.text_input.specs.Input.{lines}
 use Rattle.text_input.proofs.Lines.{next-start}
 use borrow.Author.Needs.{needs}
 use Rattle.text_input.proofs.line_start.Statement.{statement}

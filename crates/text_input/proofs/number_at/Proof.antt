@@ -1,7 +1,7 @@
 -- `text_input::number_at` meets its contract: the line is found, and its number read. Assumes nothing.
 use mathlib.Core.Path.{_∙_, ap}
 use Rattle.slices.specs.Parts.{part}
-use Rattle.text_input.specs.Format.{field, numberOf}
+use Rattle.text_input.specs.Input.{field, numberOf}
 use Rattle.text_input.proofs.Values.{number-bounded}
 use borrow.Author.Needs.{needs}
 use Rattle.text_input.proofs.number_at.Statement.{statement}

@@ -2,7 +2,7 @@
 -- Assumes nothing.
 use Prim.Native.Nat.{_+_, _≤_, _<_, _-_}
 use mathlib.Core.Path.{_≡_, _∙_, sym}
-use Rattle.text_input.specs.Format.{numberIn}
+use Rattle.text_input.specs.Input.{numberIn}
 use Rattle.text_input.proofs.Values.{number-found, number-next, number-none}
 use borrow.Author.Needs.{needs}
 use Rattle.text_input.proofs.number_in.Statement.{statement}

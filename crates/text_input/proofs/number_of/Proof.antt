@@ -2,7 +2,7 @@
 use native.Mathlib.Omega.{arith}
 use mathlib.Core.Path.{refl}
 use Rattle.numbers.specs.Choice.{pick}
-use Rattle.text_input.specs.Format.{numberOf}
+use Rattle.text_input.specs.Input.{numberOf}
 use Rattle.text_input.proofs.Values.{keyed-long, value-lent}
 use borrow.Author.Needs.{needs}
 use Rattle.text_input.proofs.number_of.Statement.{statement}

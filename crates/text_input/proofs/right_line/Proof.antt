@@ -2,7 +2,7 @@
 use Rattle.text_input.proofs.Values.{at-most}
 use borrow.Author.Tests.{eq-eqb, ne-eqb, lt-ltb, le-ltb}
 use Rattle.numbers.specs.Choice.{pick}
-use Rattle.text_input.specs.Format.{rightLine}
+use Rattle.text_input.specs.Input.{rightLine}
 use borrow.Author.Needs.{needs}
 use Rattle.text_input.proofs.right_line.Statement.{statement}
 use Rattle.text_input.proofs.right_line.Tie as tie

@@ -1,5 +1,5 @@
 -- `text_input::settings_in` meets its contract: each field is the number in its line. Assumes nothing.
-use Rattle.text_input.specs.Format.{exerciseIn}
+use Rattle.text_input.specs.Input.{exerciseIn}
 use borrow.Author.Needs.{needs}
 use Rattle.text_input.proofs.settings_in.Statement.{statement}
 use Rattle.text_input.proofs.settings_in.Tie as tie

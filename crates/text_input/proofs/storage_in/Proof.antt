@@ -1,7 +1,7 @@
 -- `text_input::storage_in` meets its contract: line 4 is there and right, so its bytes fit. Assumes nothing.
 use native.Mathlib.Omega.{arith}
 use Rattle.slices.specs.Parts.{part}
-use Rattle.text_input.specs.Format.{storage, value, bytesOf, exerciseIn}
+use Rattle.text_input.specs.Input.{storage, value, bytesOf, exerciseIn}
 use Rattle.text_input.proofs.Rights.{hex-is, storage-line}
 use borrow.Author.Needs.{needs}
 use Rattle.text_input.proofs.storage_in.Statement.{statement}

@@ -7,7 +7,7 @@ use lib.ListN.{length, drop}
 use borrow.Author.Tests.{not-true, not-false, lt-ltb, le-ltb}
 use Rattle.slices.specs.Parts.{part}
 use Rattle.numbers.specs.Choice.{pick}
-use Rattle.text_input.specs.Format.{lines, wrongFrom, wrongLine}
+use Rattle.text_input.specs.Input.{lines, wrongFrom, wrongLine}
 use Rattle.text_input.proofs.Lines.{line-ends-after, wrong-at-end, wrong-here, right-here}
 use borrow.Author.Needs.{needs}
 use Rattle.text_input.proofs.wrong_line.Statement.{statement}
