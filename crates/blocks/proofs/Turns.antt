@@ -1,7 +1,8 @@
 -- One block more, of a READ and of a WRITE. No contract cites this file.
 --     Turn         where block i of n bytes stands: k bytes of it, after the first `from`
 --     next-turn    so stands the next
---     turn-within, turn-room   it is one of the blocks, and lies in the store
+--     next-within  where bytes are left, the next is one of the blocks
+--     turn-room    it lies in the store
 --     read-turn    its bytes are delivered after those of the blocks before it
 --     filled       its bytes, and then zeros
 --     store-turn   it is stored after the blocks before it
@@ -35,14 +36,19 @@ next-turn size n i from k t =
     sum : (a size n from k : ℕ) → from ≡ min a n → k ≡ min size (n - from) → from + k ≡ min (a + size) n
     sum a size n from k e f = omega (arith, e, f)
 
--- a block that has a byte of them is one of the blocks
-pub turn-within : (size n i from blocks : ℕ) → from ≡ min (i * size) n → from < n → n ≤ blocks * size → i < blocks
-turn-within size n i from blocks e h m = elim (decLe blocks i) [
-  | yes g ↦ absurd (omega (arith, e, h, m, mul-le-mul-right size g))
-  | no g ↦ omega (arith, g)
-]
+-- where bytes are left after block i, the next is whole, and one of the blocks
+pub next-within : (size n i from k blocks : ℕ) → from ≡ i * size → k ≡ min size (n - from) → from + k < n → n ≤ blocks * size → (from + k ≡ (i + 1) * size) × (i + 1 < blocks)
+next-within size n i from k blocks e f h m =
+    let s : (i + 1) * size ≡ i * size + size = omega arith in
+    let here : from + k ≡ (i + 1) * size = rw s (omega (arith, e, f, h)) in (
+      here,
+      elim (decLe blocks (i + 1)) [
+        | yes g ↦ absurd (omega (arith, here, h, m, mul-le-mul-right size g))
+        | no g ↦ omega (arith, g)
+      ],
+    )
 
--- and lies in the store, whose bytes are more than its number
+-- a block lies in the store, whose bytes are more than its number
 pub turn-room : (size block blocks i held : ℕ) → 1 ≤ size → i < blocks → (block + blocks) * size ≤ held → ((block + i + 1) * size ≤ held) × (block + i < held)
 turn-room size block blocks i held o h m =
     let g : block + i + 1 ≤ block + blocks = omega (arith, h) in
@@ -50,17 +56,18 @@ turn-room size block blocks i held o h m =
     (r, omega (arith, r, mul-le-mul-left (block + i + 1) o))
 
 module _ (dev : Device) (c : Ccw) (main store : List ℕ) (block : ℕ) where
-  pub read-turn : (blocks n i from k : ℕ) → Turn (dev .block) n i from k → from < n → n ≤ blocks * dev .block → (block + blocks) * dev .block ≤ length store → c .address ≤ length main
-      → deliveredFrom c (delivered c main (take from (blocksFrom dev store block blocks))) from (take k (blockAt dev store (block + i)))
-      ≡ delivered c main (take (from + k) (blocksFrom dev store block blocks))
-  read-turn blocks n i from k t h m r a =
-      let here : from ≡ i * dev .block = omega (arith, t .after, h) in
-      let small : k ≤ dev .block = omega (arith, t .bytes) in
-      let fits : from + k ≤ n = omega (arith, t .bytes, h) in
+  -- `now` is main storage before block i, `after` behind it
+  pub read-turn : (blocks n i from k : ℕ) {now after : List ℕ} → from ≡ i * dev .block → k ≡ min (dev .block) (n - from) → from ≤ n → n ≤ blocks * dev .block
+      → (block + blocks) * dev .block ≤ length store → c .address ≤ length main
+      → now ≡ delivered c main (take from (blocksFrom dev store block blocks)) → after ≡ deliveredFrom c now from (take k (blockAt dev store (block + i)))
+      → after ≡ delivered c main (take (from + k) (blocksFrom dev store block blocks))
+  read-turn blocks n i from k here bytes l m r a before moved =
+      let small : k ≤ dev .block = omega (arith, bytes) in
+      let fits : from + k ≤ n = omega (arith, bytes, l) in
       let held : from ≤ length (blocksFrom dev store block blocks) = rw (blocks-from-part dev store block blocks, length-part store (block * dev .block) (blocks * dev .block) (omega (arith, r))) (omega (arith, fits, m)) in
       let sum : take (from + k) (blocksFrom dev store block blocks) ≡ take from (blocksFrom dev store block blocks) ++ take k (blockAt dev store (block + i))
       = rw here (take-blocks-more dev store block blocks i k small (omega (arith, here, fits, m))) in
-      delivered-more c main _ _ from (sym (length-take-le from _ held)) a ∙ sym (ap (delivered c main) sum)
+      rw before at moved ∙ delivered-more c main _ _ from (sym (length-take-le from _ held)) a ∙ sym (ap (delivered c main) sum)
 
   pub store-turn : (n i from k : ℕ) (s : List ℕ) → Turn (dev .block) n i from k → s ≡ blocksInto dev store block i (fetched c main n)
       → put s (blockStart dev (block + i)) (pad (dev .block) (fetchedFrom c main from k)) ≡ blocksInto dev store block (i + 1) (fetched c main n)

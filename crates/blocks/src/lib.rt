@@ -85,16 +85,19 @@ pub fn read_blocks(
     main: &mut [u8],
     n: usize,
 )
-    requires { ⌜ (1 ≤ d .block) × (d .block ≤ 65535) × ((block + blocks) * d .block ≤ length (now store)) × (n ≤ blocks * d .block) × (c .address + n ≤ length (now main)) ⌝ }
+    requires { ⌜ (1 ≤ d .block) × (d .block ≤ 65535) × ((block + blocks) * d .block ≤ length (now store)) × (n ≤ blocks * d .block) × (c .address + n ≤ length (now main)) × (1 ≤ blocks) ⌝ }
     ensures { λ _. ⌜ now (main .exit) ≡ delivered c (now (main .entry)) (take n (blocksFrom d (now (store .entry)) block blocks)) ⌝ }
 {
     let mut i = 0;
     let mut from = 0;
-    while from < n {
+    loop {
         let k = least(d.block, n - from);
         read_block(d, store, block + i, c, main, from, k);
         i += 1;
         from += k;
+        if n <= from {
+            return;
+        }
     }
 }
 

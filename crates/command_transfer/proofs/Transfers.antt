@@ -3,7 +3,8 @@
 --     Placed, placed                       the located blocks lie in the store, and are not too many
 --     Transfer, reading, writing           a sound READ or WRITE
 --     no-locate, other-locate, passed      its two tests: refused by 41, by 42, or let through
---     Passed, move-asks, done-asks         what that says of the blocks to move, and of the ending
+--     Passed, move-asks, read-asks, done-asks
+--                                          what that says of the blocks to move, and of the ending
 --     read-ends, write-ends, ipl-ends      the bytes that were moved, and the ending, are the command
 use Prim.Native.Nat.{ℕ, _+_, _*_, _≤_, _<_, min}
 use mathlib.Core.Path.{_≡_, refl, sym, ap, _∙_}
@@ -47,6 +48,7 @@ use Rattle.command_transfer.specs.declared.Move.{Move}
 use Rattle.command_transfer.specs.Transferred.{moveOf, readEnd, writtenBy, writeEnd, iplEnd}
 
 pub record Placed (dev : Device) (e : Extent) (l : Located) (store : List ℕ) : Type 0 where
+  pub some : 1 ≤ l .blocks
   pub from-first : e .first .0 ≤ l .displacement .0
   pub room : (address e (l .displacement) + l .blocks) * dev .block ≤ length store
   pub few : l .blocks ≤ 131072
@@ -65,7 +67,7 @@ placed dev s store h b =
     let few : n ≤ 131072 = omega (arith, on, h .few-blocks) in
     let p = mul-le-mul-right (dev .block) few in
     let q = mul-le-mul-left 131072 (h .small-size) in
-    record { from-first = safe .located b .1 .from-first; room = in-store dev store _ on; few = few; product = omega (arith, p, q) }
+    record { some = safe .located b .1 .some; from-first = safe .located b .1 .from-first; room = in-store dev store _ on; few = few; product = omega (arith, p, q) }
 
 -- a sound READ or WRITE: its table is that of a transfer, and what it does where that gives no cause
 pub record Transfer (follows : ℕ → Bool) (dev : Device) (c : Ccw) (s : Running) (main store : List ℕ) : Type 0 where
@@ -113,6 +115,9 @@ module _ {follows : ℕ → Bool} {dev : Device} {c : Ccw} {s : Running} {main s
   move-asks =
       let sound = p .transfer .sound in
       (sound .some-size, sound .small-size, rw e (placed dev s store sound (p .located) .room), rw e (omega arith), rw e (omega (arith, p .transfer .handed .area)))
+
+  pub read-asks : (1 ≤ dev .block) × (dev .block ≤ 65535) × ((m .block + s .located .blocks) * dev .block ≤ length store) × (m .n ≤ s .located .blocks * dev .block) × (c .address + m .n ≤ length main) × (1 ≤ s .located .blocks)
+  read-asks = (move-asks .0, move-asks .1, move-asks .2, move-asks .3, move-asks .4, placed dev s store (p .transfer .sound) (p .located) .some)
 
   pub done-asks : (1 ≤ dev .block) × (dev .block ≤ 65535) × (c .count < 65536) × (m .n ≤ c .count)
   done-asks = (p .transfer .sound .some-size, p .transfer .sound .small-size, p .transfer .handed .count, rw e (omega arith))

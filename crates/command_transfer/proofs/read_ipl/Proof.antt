@@ -28,7 +28,7 @@ read-blocks-requires c κs =
     let first = least .before .before .before .before .before in
     let a = first .args in
     let sound = first .pre .0 in
-    (sound .some-size, sound .small-size, in-store (a .d) (a .store .now) 1 (sound .some-block), omega (arith, least .least .ensures), omega (arith, least .least .ensures, first .pre .1 .area))
+    (sound .some-size, sound .small-size, in-store (a .d) (a .store .now) 1 (sound .some-block), omega (arith, least .least .ensures), omega (arith, least .least .ensures, first .pre .1 .area), omega arith)
 
 returns-2 : tie.Need-returns-2
 unfolding readIplCauses stateOf
