@@ -1,8 +1,8 @@
 -- One block more, of a READ and of a WRITE. No contract cites this file.
---     Turn         where block i of n bytes stands: k bytes of it, after the first `from`
---     next-turn    so stands the next
+--     Share        the share of block i in n bytes: k of them, after the first `from`
+--     next-share   where the next one's begins
 --     next-within  where bytes are left, the next is one of the blocks
---     turn-room    it lies in the store
+--     one-of       it lies in the store, as all of them do
 --     read-turn    its bytes are delivered after those of the blocks before it
 --     filled       its bytes, and then zeros
 --     store-turn   it is stored after the blocks before it
@@ -21,15 +21,16 @@ use Rattle.model.specs.declared.ccw.Ccw.{Ccw}
 use Rattle.model.specs.declared.device.Device.{Device}
 use Rattle.model.specs.Lent.{fetched, delivered, blockStart, blockAt, blocksFrom, blocksInto}
 use Rattle.model.proofs.Blocks.{blocks-from-part, take-blocks-more, blocks-into-last}
-use Rattle.storage.specs.Area.{fetchedFrom, deliveredFrom}
+use Rattle.storage.specs.Area.{fetchedFrom, deliveredFrom, InArea}
 use Rattle.storage.proofs.Laws.{delivered-more, fetched-block}
+use Rattle.blocks.specs.Places.{InStore}
 
-pub record Turn (size n i from k : ℕ) : Type 0 where
+pub record Share (size n i from k : ℕ) : Type 0 where
   pub after : from ≡ min (i * size) n
   pub bytes : k ≡ min size (n - from)
 
-pub next-turn : (size n i from k : ℕ) → Turn size n i from k → from + k ≡ min ((i + 1) * size) n
-next-turn size n i from k t =
+pub next-share : (size n i from k : ℕ) → Share size n i from k → from + k ≡ min ((i + 1) * size) n
+next-share size n i from k t =
     let e : (i + 1) * size ≡ i * size + size = omega arith in
     rw e (sum (i * size) size n from k (t .after) (t .bytes))
   where
@@ -49,35 +50,35 @@ next-within size n i from k blocks e f h m =
     )
 
 -- a block lies in the store, whose bytes are more than its number
-pub turn-room : (size block blocks i held : ℕ) → 1 ≤ size → i < blocks → (block + blocks) * size ≤ held → ((block + i + 1) * size ≤ held) × (block + i < held)
-turn-room size block blocks i held o h m =
+pub one-of : {dev : Device} {store now : List ℕ} {block blocks i : ℕ} → InStore dev store block blocks → i < blocks → length now ≡ length store → InStore dev now (block + i) 1 × (block + i < length now)
+one-of {dev} {store} {now} {block} {blocks} {i} s h e =
     let g : block + i + 1 ≤ block + blocks = omega (arith, h) in
-    let r : (block + i + 1) * size ≤ held = omega (arith, m, mul-le-mul-right size g) in
-    (r, omega (arith, r, mul-le-mul-left (block + i + 1) o))
+    let r : (block + i + 1) * dev .block ≤ length now = omega (arith, e, s .inside, mul-le-mul-right (dev .block) g) in
+    (record { device = s .device; inside = r }, omega (arith, r, mul-le-mul-left (block + i + 1) (s .device .some-size)))
 
 module _ (dev : Device) (c : Ccw) (main store : List ℕ) (block : ℕ) where
   -- `now` is main storage before block i, `after` behind it
   pub read-turn : (blocks n i from k : ℕ) {now after : List ℕ} → from ≡ i * dev .block → k ≡ min (dev .block) (n - from) → from ≤ n → n ≤ blocks * dev .block
-      → (block + blocks) * dev .block ≤ length store → c .address ≤ length main
+      → InStore dev store block blocks → c .address ≤ length main
       → now ≡ delivered c main (take from (blocksFrom dev store block blocks)) → after ≡ deliveredFrom c now from (take k (blockAt dev store (block + i)))
       → after ≡ delivered c main (take (from + k) (blocksFrom dev store block blocks))
   read-turn blocks n i from k here bytes l m r a before moved =
       let small : k ≤ dev .block = omega (arith, bytes) in
       let fits : from + k ≤ n = omega (arith, bytes, l) in
-      let held : from ≤ length (blocksFrom dev store block blocks) = rw (blocks-from-part dev store block blocks, length-part store (block * dev .block) (blocks * dev .block) (omega (arith, r))) (omega (arith, fits, m)) in
+      let held : from ≤ length (blocksFrom dev store block blocks) = rw (blocks-from-part dev store block blocks, length-part store (block * dev .block) (blocks * dev .block) (omega (arith, r .inside))) (omega (arith, fits, m)) in
       let sum : take (from + k) (blocksFrom dev store block blocks) ≡ take from (blocksFrom dev store block blocks) ++ take k (blockAt dev store (block + i))
       = rw here (take-blocks-more dev store block blocks i k small (omega (arith, here, fits, m))) in
       rw before at moved ∙ delivered-more c main _ _ from (sym (length-take-le from _ held)) a ∙ sym (ap (delivered c main) sum)
 
-  pub store-turn : (n i from k : ℕ) (s : List ℕ) → Turn (dev .block) n i from k → s ≡ blocksInto dev store block i (fetched c main n)
+  pub store-turn : (n i from k : ℕ) (s : List ℕ) → Share (dev .block) n i from k → s ≡ blocksInto dev store block i (fetched c main n)
       → put s (blockStart dev (block + i)) (pad (dev .block) (fetchedFrom c main from k)) ≡ blocksInto dev store block (i + 1) (fetched c main n)
   store-turn n i from k s t e = rw (e, fetched-block c main (dev .block) n i from k (t .after) (t .bytes)) (sym (blocks-into-last dev store block i (fetched c main n)))
 
 -- a block that bytes were fetched into, `b`, and whose rest was cleared and came `back`
 pub filled : (c : Ccw) (main d b back : List ℕ) (from n : ℕ) → b ≡ put d 0 (fetchedFrom c main from n) → back ≡ zeros (length (midOf n (length b - n) b))
-    → c .address + (from + n) ≤ length main → n ≤ length d → putMid n (length b - n) b back ≡ pad (length d) (fetchedFrom c main from n)
+    → InArea c main from n → n ≤ length d → putMid n (length b - n) b back ≡ pad (length d) (fetchedFrom c main from n)
 unfolding fetchedFrom
 filled c main d b back from n e f h g =
     let l : List ℕ = part main (c .address + from) n in
-    let long : length l ≡ n = length-part main (c .address + from) n (omega arith) in
+    let long : length l ≡ n = length-part main (c .address + from) n (omega (arith, h .inside)) in
     pad-cleared d l b back n (omega (arith, long)) (e ∙ ap (put d 0) (sym (take-all n l (omega (arith, long))))) f

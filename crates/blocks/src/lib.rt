@@ -7,16 +7,18 @@ use slices::least;
 use storage::deliver;
 use storage::fetch;
 ghost use mathlib.Core.Path.{_≡_};
-ghost use Prim.Native.Nat.{_+_, _*_, _≤_};
+ghost use Prim.Native.Nat.{_+_, _≤_};
 ghost use lib.ListN.{length, take};
 ghost use Rattle.slices.specs.Parts.{put, pad};
 ghost use Rattle.model.specs.Lent.{fetched, delivered, blockCount, blockStart, blockAt, blocksFrom, blocksInto};
 ghost use Rattle.model.specs.Commands.{begun};
-ghost use Rattle.storage.specs.Area.{fetchedFrom, deliveredFrom};
+ghost use Rattle.model.specs.Safe.{Usable};
+ghost use Rattle.storage.specs.Area.{fetchedFrom, deliveredFrom, InArea};
+ghost use Rattle.blocks.specs.Places.{InStore, Movable};
 
 // The blocks of a device.
 pub fn block_count(d: Device, store: &[u8]) -> usize
-    requires { ⌜ 1 ≤ d .block ⌝ }
+    requires { ⌜ Usable d ⌝ }
     ensures { λ r. ⌜ r ≡ blockCount d (now (store .entry)) ⌝ }
 {
     store.len() / d.block
@@ -24,33 +26,44 @@ pub fn block_count(d: Device, store: &[u8]) -> usize
 
 // The blocks that n bytes begin.
 pub fn begun(d: Device, n: usize) -> usize
-    requires { ⌜ (1 ≤ d .block) × (d .block ≤ 65535) × (n ≤ 65535) ⌝ }
+    requires { ⌜ Usable d × (n ≤ 65535) ⌝ }
     ensures { λ r. ⌜ r ≡ begun d n ⌝ }
 {
     (n + (d.block - 1)) / d.block
 }
 
-// Where a block begins in a store of so many bytes. Nobody else says.
-fn place(d: Device, block: usize, held: usize) -> usize
-    requires { ⌜ (block + 1) * d .block ≤ held ⌝ }
-    ensures { λ r. ⌜ (r ≡ blockStart d block) × (r + d .block ≤ held) ⌝ }
+// The bytes of a block in the store: from the first up to the one behind the last.
+pub struct Span {
+    pub start: usize,
+    pub end: usize,
+}
+
+// Where a block lies. Nobody else says.
+fn place(d: Device, store: &[u8], block: usize) -> Span
+    requires { ⌜ InStore d (now store) block 1 ⌝ }
+    ensures { λ r. ⌜ (r .start ≡ blockStart d block) × (r .end ≡ r .start + d .block) × (r .end ≤ length (now (store .entry))) ⌝ }
 {
-    block * d.block
+    let start = block * d.block;
+    Span {
+        start: start,
+        end: start + d.block,
+    }
 }
 
 // The first n bytes of a block go to the data area, from a place on.
 fn read_block(d: Device, store: &[u8], block: usize, c: Ccw, main: &mut [u8], from: usize, n: usize)
-    requires { ⌜ ((block + 1) * d .block ≤ length (now store)) × (n ≤ d .block) × (d .block ≤ 65535) × (c .address + (from + n) ≤ length (now main)) ⌝ }
+    requires { ⌜ Movable d (now store) block 1 c (now main) from n ⌝ }
     ensures { λ _. ⌜ now (main .exit) ≡ deliveredFrom c (now (main .entry)) from (take n (blockAt d (now (store .entry)) block)) ⌝ }
 {
-    let start = place(d, block, store.len());
-    let end = start + d.block;
+    let span = place(d, store, block);
+    let start = span.start;
+    let end = span.end;
     deliver(c, main, from, &store[start..end], n);
 }
 
 // n bytes of the data area, from a place on, and then zeros fill a block.
 fn fill(block: &mut [u8], c: Ccw, main: &[u8], from: usize, n: usize)
-    requires { ⌜ (n ≤ length (now block)) × (n ≤ 65535) × (c .address + (from + n) ≤ length (now main)) ⌝ }
+    requires { ⌜ (n ≤ length (now block)) × (n ≤ 65535) × InArea c (now main) from n ⌝ }
     ensures { λ _. ⌜ now (block .exit) ≡ pad (length (now (block .entry))) (fetchedFrom c (now (main .entry)) from n) ⌝ }
 {
     fetch(c, main, from, block, n);
@@ -67,11 +80,12 @@ fn store_block(
     from: usize,
     n: usize,
 )
-    requires { ⌜ ((block + 1) * d .block ≤ length (now store)) × (n ≤ d .block) × (d .block ≤ 65535) × (c .address + (from + n) ≤ length (now main)) ⌝ }
+    requires { ⌜ Movable d (now store) block 1 c (now main) from n ⌝ }
     ensures { λ _. ⌜ now (store .exit) ≡ put (now (store .entry)) (blockStart d block) (pad (d .block) (fetchedFrom c (now (main .entry)) from n)) ⌝ }
 {
-    let start = place(d, block, store.len());
-    let end = start + d.block;
+    let span = place(d, store, block);
+    let start = span.start;
+    let end = span.end;
     fill(&mut store[start..end], c, main, from, n);
 }
 
@@ -85,7 +99,7 @@ pub fn read_blocks(
     main: &mut [u8],
     n: usize,
 )
-    requires { ⌜ (1 ≤ d .block) × (d .block ≤ 65535) × ((block + blocks) * d .block ≤ length (now store)) × (n ≤ blocks * d .block) × (c .address + n ≤ length (now main)) × (1 ≤ blocks) ⌝ }
+    requires { ⌜ Movable d (now store) block blocks c (now main) 0 n × (1 ≤ blocks) ⌝ }
     ensures { λ _. ⌜ now (main .exit) ≡ delivered c (now (main .entry)) (take n (blocksFrom d (now (store .entry)) block blocks)) ⌝ }
 {
     let mut i = 0;
@@ -111,7 +125,7 @@ pub fn store_blocks(
     main: &[u8],
     n: usize,
 )
-    requires { ⌜ (1 ≤ d .block) × (d .block ≤ 65535) × ((block + blocks) * d .block ≤ length (now store)) × (n ≤ blocks * d .block) × (c .address + n ≤ length (now main)) ⌝ }
+    requires { ⌜ Movable d (now store) block blocks c (now main) 0 n ⌝ }
     ensures { λ _. ⌜ now (store .exit) ≡ blocksInto d (now (store .entry)) block blocks (fetched c (now (main .entry)) n) ⌝ }
 {
     let mut from = 0;

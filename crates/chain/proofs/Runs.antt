@@ -30,10 +30,11 @@ use Rattle.model.specs.Rules.{firstOf}
 use Rattle.model.specs.Lent.{ccwSize, ccwAt, flag, blockCount, fetched}
 use Rattle.model.specs.Parameters.{locateLength}
 use Rattle.model.specs.Causes.{callCauses, kindBy}
+use Rattle.model.specs.Sense.{shown}
 use Rattle.model.specs.Commands.{Out, step}
 use Rattle.model.specs.Answer.{answerSize, answerOf, channelBy, channelStatus, wrongLength, goesOn}
 use Rattle.model.specs.Chain.{System, stepAt, next, more, run, called, call, classA}
-use Rattle.model.specs.Safe.{Safe}
+use Rattle.model.specs.Safe.{Usable, CcwFits, Safe}
 use Rattle.model.proofs.Endings.{Callable}
 use Rattle.model.proofs.Fields.{verdict-small, step-blocks}
 use Rattle.model.proofs.Refusals.{call-ran}
@@ -46,9 +47,10 @@ use Rattle.log.specs.Counts.{counted}
 use Rattle.unit_state.specs.Standing.{started, unitOf, stateOf, stateLeft, Sound}
 use Rattle.unit_state.proofs.Units.{started-state, safe-any}
 use Rattle.endings.specs.declared.Ended.{Ended}
-use Rattle.endings.specs.Ending.{answerBytes, marked, wrongBy, shown, Leaves, Ends}
+use Rattle.endings.specs.Ending.{answerBytes, marked, wrongBy, Leaves, Ends}
 use Rattle.endings.proofs.Answers.{answer-bytes}
-use Rattle.chain.specs.Walk.{carriedOf, leftOf, leftAt, leftFrom, systemOf, systemLeft, runOf, leftBy, leftCall}
+use Rattle.chain.specs.Walk.{carriedOf, leftOf, leftAt, leftFrom, systemOf, systemLeft, Turned, Walks, Allowed}
+use Rattle.chain.specs.declared.run.Walked.{Walked}
 
 module _ (dev : Device) (chain : List ℕ) where
   -- no command is left to do, and one is
@@ -62,7 +64,7 @@ module _ (dev : Device) (chain : List ℕ) where
   run-suc m n i y e = rw e
 
   left-done : (n i : ℕ) (s : Running) (y : System) → n ≡ 0
-      → leftFrom dev chain n i s y ≡ record { state = s; parameters = zeros 8; cause = 0 }
+      → leftFrom dev chain n i s y ≡ record { state = s; parameters = zeros locateLength; cause = 0 }
   unfolding leftFrom
   left-done n i s y e = rw e
 
@@ -87,6 +89,10 @@ module _ (dev : Device) (chain : List ℕ) where
     -- what the whole run gives
     abbrev pub Given : System → Left → Type 0
     Given y l = (y ≡ run dev chain n 0 lent) × (l ≡ leftFrom dev chain n 0 s₀ lent)
+
+    pub given-walks : {w : Walked} {main store answers : List ℕ} → n ≡ length chain / ccwSize → Given (systemLeft u (w .left) main store answers (w .reached)) (w .left)
+        → Walks dev chain u s₀ lent w main store answers
+    given-walks e g = record { after = rw e at (g .0); left = rw e at (g .1) }
 
     -- between two turns: the lengths are kept, the state is safe, and what is still to run from here gives what the whole run does
     pub record Underway (main store answers : List ℕ) (s : Running) (i : ℕ) : Type 0 where
@@ -144,7 +150,7 @@ module _ (dev : Device) (chain : List ℕ) where
         f ∙ sym (left-suc (n - i) (n - (i + 1)) i s here (omega arith) ∙ pick-false _ _ _ g) ∙ w .same .1,
       )
 
-      pub underway-done : n ≤ i → Given here (record { state = s; parameters = zeros 8; cause = 0 })
+      pub underway-done : n ≤ i → Given here (record { state = s; parameters = zeros locateLength; cause = 0 })
       underway-done h = (sym (run-done (n - i) i here (omega arith)) ∙ w .same .0, sym (left-done (n - i) i s here (omega arith)) ∙ w .same .1)
 
 -- an answer's two numbers, put one after the other, and the mark of a wrong length
@@ -209,31 +215,33 @@ module _ (dev : Device) (chain : List ℕ) (i : ℕ) (c : Ccw) (u : Record) (s :
   unfolding stepAt
   turned-left = rw (← e) (left-known u c s (r .left) _ (f .left))
 
-  pub turned : (answers′ : List ℕ) (b : Bool) → answers′ ≡ put answers (i * answerSize) (marked (r .wrong) (answerBytes (r .answer))) → c .count < 65536 → 1 ≤ dev .block
-      → b ≡ (r .left .cause =? 0 && not (r .wrong) && flag c chain-command)
-      → (systemLeft u (r .left) main′ store′ answers′ (i + 1) ≡ next dev chain i found) × ((b ≡ more dev chain i found) × (r .left ≡ leftAt dev chain i s found))
-  turned answers′ b h n d g = (turned-system answers′ h n d, (turned-go b g, turned-left))
+  pub turned : (answers′ : List ℕ) (b : Bool) → answers′ ≡ put answers (i * answerSize) (marked (r .wrong) (answerBytes (r .answer))) → CcwFits c → Usable dev
+      → b ≡ (r .left .cause =? 0 && not (r .wrong) && flag c chain-command) → Turned dev chain u s found i (record { left = r .left; go = b }) main′ store′ answers′
+  turned answers′ b h n d g = record { after = turned-system answers′ h (n .count) (d .some-size); go = turned-go b g; left = turned-left }
 
 -- a store that kept its length is as good
 pub sound-same : (dev : Device) (u : Record) (s t : Running) (store store′ : List ℕ) → length store′ ≡ length store → Sound dev s store → Safe (stateOf u t) (blockCount dev store′) → Sound dev t store′
 unfolding blockCount
 sound-same dev u s t store store′ e r h =
-    record { some-size = r .some-size; small-size = r .small-size; some-block = rw e (r .some-block); few-blocks = rw e (r .few-blocks); safe = λ v. safe-any v t u _ h }
+    record { device = r .device; some-block = rw e (r .some-block); few-blocks = rw e (r .few-blocks); safe = λ v. safe-any v t u _ h }
+
+pub class-a-usable : Usable classA
+class-a-usable = record { some-size = omega arith; small-size = omega arith }
 
 -- what the call's tests leave known of the device
 pub callable-sound : (chain main store answers : List ℕ) (u : Record) → Callable classA chain main store answers → Sound classA (started u) store
 callable-sound chain main store answers u k =
     record {
-      some-size = omega arith;
-      small-size = omega arith;
+      device = class-a-usable;
       some-block = some-block classA store (k .stored) (k .even);
       few-blocks = k .held;
       safe = λ v. safe-any v (started u) u _ (rw (started-state u) (safe-start u _));
     }
 
 -- and the run that they allow is the call
-pub allowed : (chain main store answers : List ℕ) (u : Record) (dev : Device) (t : Running) (z : System) (l : Left) → dev ≡ classA → t ≡ started u → firstOf (callCauses classA chain main store answers) ≡ 0
-    → (z ≡ runOf dev chain (systemOf u t main store answers 0)) × (l ≡ leftBy dev chain t (systemOf u t main store answers 0))
-    → (called 0 z ≡ call chain main store u answers) × (l ≡ leftCall chain main store u answers)
-allowed chain main store answers u dev t z l d e n f =
-    (ap (called 0) (rw (d, e, started-state u) at (f .0)) ∙ sym (call-ran classA chain main store u answers n), rw (d, e, started-state u) at (f .1))
+pub allowed : (chain main store answers main′ store′ answers′ : List ℕ) (u : Record) (dev : Device) (t : Running) (w : Walked) → dev ≡ classA → t ≡ started u → firstOf (callCauses classA chain main store answers) ≡ 0
+    → Walks dev chain u t (systemOf u t main store answers 0) w main′ store′ answers′ → Allowed u chain main store answers w main′ store′ answers′
+allowed chain main store answers main′ store′ answers′ u dev t w d e n f = record {
+  after = ap (called 0) (rw (d, e, started-state u) at (f .after)) ∙ sym (call-ran classA chain main store u answers n);
+  left = rw (d, e, started-state u) at (f .left);
+}

@@ -4,9 +4,12 @@
 --     leftFrom              what the run leaves, the chain from command i on, n commands at most: it goes on where `run` does
 --     systemOf, systemLeft  the systems that a `Running` and a `Left` stand for, with what is lent
 --     runOf, leftBy         the system after the whole chain, and what it leaves; leftCall   what a call leaves
+--     Turned                one turn is the definition's: the promise of `one_turn`
+--     Walks, Allowed        so is a run, and a call that no cause refuses
 --     calledWith            what a call gives, with what was lent
 -- Assumes nothing.
 use Prim.Native.Nat.{ℕ, zero, suc, _+_, _/_}
+use mathlib.Core.Path.{_≡_}
 use mathlib.Core.Bool.{Bool, _&&_}
 use mathlib.Core.List.{List}
 use lib.ListN.{length}
@@ -19,13 +22,14 @@ use Rattle.model.specs.State.{State}
 use Rattle.model.specs.Names.{NO-OPERATION}
 use Rattle.model.specs.Lent.{ccwSize, ccwAt, fetched}
 use Rattle.model.specs.Parameters.{locateLength}
+use Rattle.model.specs.Sense.{shown}
 use Rattle.model.specs.Commands.{Out}
-use Rattle.model.specs.Chain.{System, system, stepAt, next, more, run, start, classA}
-use Rattle.model.specs.Chain as definition
+use Rattle.model.specs.Chain.{System, system, stepAt, next, more, run, start, Called, called, classA, call}
 use Rattle.unit_state.specs.declared.Running.{Running}
 use Rattle.unit_state.specs.declared.Left.{Left}
 use Rattle.unit_state.specs.Standing.{started, stateOf, stateLeft}
-use Rattle.endings.specs.Ending.{shown}
+use Rattle.chain.specs.declared.run.Turn.{Turn}
+use Rattle.chain.specs.declared.run.Walked.{Walked}
 use Rattle.chain.specs.declared.call.Returned.{Returned}
 
 abbrev pub carriedOf : Bool → State → Running
@@ -51,7 +55,7 @@ module _ (dev : Device) (chain : List ℕ) where
   leftAt i s y = leftOf (ccwAt chain i) s (stepAt dev chain i y)
 
   unfoldable pub leftFrom : ℕ → ℕ → Running → System → Left
-  leftFrom zero i s y = record { state = s; parameters = zeros 8; cause = 0 }
+  leftFrom zero i s y = record { state = s; parameters = zeros locateLength; cause = 0 }
   leftFrom (suc n) i s y = pick (more dev chain i y) (leftFrom n (i + 1) (leftAt i s y .state) (next dev chain i y)) (leftAt i s y)
 
   abbrev pub runOf : System → System
@@ -70,5 +74,21 @@ module _ (u : Record) where
 abbrev pub leftCall : List ℕ → List ℕ → List ℕ → Record → List ℕ → Left
 leftCall chain main store u answers = leftBy classA chain (started u) (system (start u) main store answers 0)
 
-abbrev pub calledWith : Returned → List ℕ → List ℕ → List ℕ → definition.Called
+-- in a chain that found record u, of a turn or a run that found s carried, which stands for system y, and leaves these buffers
+
+pub record Turned (dev : Device) (chain : List ℕ) (u : Record) (s : Running) (y : System) (i : ℕ) (t : Turn) (main store answers : List ℕ) : Type 0 where
+  pub after : systemLeft u (t .left) main store answers (i + 1) ≡ next dev chain i y
+  pub go : t .go ≡ more dev chain i y
+  pub left : t .left ≡ leftAt dev chain i s y
+
+pub record Walks (dev : Device) (chain : List ℕ) (u : Record) (s : Running) (y : System) (w : Walked) (main store answers : List ℕ) : Type 0 where
+  pub after : systemLeft u (w .left) main store answers (w .reached) ≡ runOf dev chain y
+  pub left : w .left ≡ leftBy dev chain s y
+
+-- of a call that was lent main storage, store and answers, and leaves them primed
+pub record Allowed (u : Record) (chain main store answers : List ℕ) (w : Walked) (main′ store′ answers′ : List ℕ) : Type 0 where
+  pub after : called 0 (systemLeft u (w .left) main′ store′ answers′ (w .reached)) ≡ call chain main store u answers
+  pub left : w .left ≡ leftCall chain main store u answers
+
+abbrev pub calledWith : Returned → List ℕ → List ℕ → List ℕ → Called
 calledWith r main store answers = record { cause = r .cause; reached = r .reached; unit = r .unit; main = main; store = store; answers = answers }

@@ -10,8 +10,8 @@ use unit_state::start;
 ghost use mathlib.Core.Path.{_≡_};
 ghost use Rattle.model.specs.Rules.{firstOf};
 ghost use Rattle.model.specs.Causes.{callCauses};
-ghost use Rattle.model.specs.Chain.{called, call, classA};
-ghost use Rattle.chain.specs.Walk.{systemLeft, leftCall, calledWith};
+ghost use Rattle.model.specs.Chain.{call, classA};
+ghost use Rattle.chain.specs.Walk.{Allowed, calledWith};
 
 fn class_a() -> Device
     ensures { λ r. ⌜ r ≡ classA ⌝ }
@@ -37,10 +37,8 @@ pub fn run_allowed(
     answers: &mut [u8],
 ) -> Walked
     requires { ⌜ firstOf (callCauses classA (now chain) (now main) (now store) (now answers)) ≡ 0 ⌝ }
-    ensures after { λ r. ⌜ called 0 (systemLeft u (r .left) (now (main .exit)) (now (store .exit)) (now (answers .exit)) (r .reached))
-        ≡ call (now (chain .entry)) (now (main .entry)) (now (store .entry)) u (now (answers .entry)) ⌝ }
-    ensures left { λ r. ⌜ r .left
-        ≡ leftCall (now (chain .entry)) (now (main .entry)) (now (store .entry)) u (now (answers .entry)) ⌝ }
+    ensures { λ r. ⌜ Allowed u (now (chain .entry)) (now (main .entry)) (now (store .entry)) (now (answers .entry))
+        r (now (main .exit)) (now (store .exit)) (now (answers .exit)) ⌝ }
 {
     run_chain(class_a(), chain, u, start(u), main, store, answers)
 }

@@ -7,6 +7,7 @@ ghost use lib.ListN.{length};
 ghost use Rattle.model.specs.Rules.{firstOf};
 ghost use Rattle.model.specs.Lent.{ccwSize};
 ghost use Rattle.model.specs.Causes.{allChained, callCauses};
+ghost use Rattle.model.specs.Safe.{Usable};
 use channel::ccw::ccw_at;
 use model::device::Device;
 use model::sizes;
@@ -18,7 +19,7 @@ fn chain_wrong(len: usize) -> bool
     if len == 0 {
         return true;
     }
-    if 256 < len {
+    if sizes::MOST_CHAIN < len {
         return true;
     }
     len % sizes::CCW != 0
@@ -35,7 +36,7 @@ fn store_wrong(size: usize, len: usize) -> bool
     if len % size != 0 {
         return true;
     }
-    131072 < len / size
+    sizes::MOST_BLOCKS < len / size
 }
 
 // Each CCW has flag 40, so no CCW is the chain's last.
@@ -56,7 +57,7 @@ fn all_chained(chain: &[u8]) -> bool
 
 // The lowest cause that holds of the call, or 0.
 pub fn call_cause(d: Device, chain: &[u8], main: &[u8], store: &[u8], answers: &[u8]) -> u8
-    requires { ⌜ 1 ≤ d .block ⌝ }
+    requires { ⌜ Usable d ⌝ }
     ensures { λ r. ⌜ r ≡ firstOf (callCauses d (now (chain .entry)) (now (main .entry)) (now (store .entry)) (now (answers .entry))) ⌝ }
 {
     if chain_wrong(chain.len()) {
@@ -65,7 +66,7 @@ pub fn call_cause(d: Device, chain: &[u8], main: &[u8], store: &[u8], answers: &
     if store_wrong(d.block, store.len()) {
         return 2;
     }
-    if 16777216 < main.len() {
+    if sizes::MOST_STORAGE < main.len() {
         return 3;
     }
     if answers.len() < chain.len() {

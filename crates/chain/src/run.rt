@@ -19,10 +19,9 @@ ghost use Rattle.slices.specs.Parts.{put};
 ghost use Rattle.model.specs.Names.{chain-command, INCORRECT-LENGTH};
 ghost use Rattle.model.specs.Lent.{ccwSize, flag};
 ghost use Rattle.model.specs.Answer.{answerSize};
-ghost use Rattle.model.specs.Chain.{next, more};
 ghost use Rattle.unit_state.specs.Standing.{Sound};
 ghost use Rattle.endings.specs.Ending.{answerBytes, marked};
-ghost use Rattle.chain.specs.Walk.{systemOf, systemLeft, leftAt, runOf, leftBy};
+ghost use Rattle.chain.specs.Walk.{systemOf, Turned, Walks};
 
 // A wrong length is the channel's to mark, in its status.
 fn mark(answers: &mut [u8], at: usize, wrong: bool)
@@ -79,12 +78,8 @@ fn one_turn(
 ) -> Turn
     requires { ⌜ (i * ccwSize + ccwSize ≤ length (now chain)) × (length (now chain) ≤ 256)
         × (i * answerSize + answerSize ≤ length (now answers)) × Sound d s (now store) ⌝ }
-    ensures after { λ r. ⌜ systemLeft u (r .left) (now (main .exit)) (now (store .exit)) (now (answers .exit)) (i + 1)
-        ≡ next d (now (chain .entry)) i (systemOf u s (now (main .entry)) (now (store .entry)) (now (answers .entry)) i) ⌝ }
-    ensures go { λ r. ⌜ r .go
-        ≡ more d (now (chain .entry)) i (systemOf u s (now (main .entry)) (now (store .entry)) (now (answers .entry)) i) ⌝ }
-    ensures left { λ r. ⌜ r .left
-        ≡ leftAt d (now (chain .entry)) i s (systemOf u s (now (main .entry)) (now (store .entry)) (now (answers .entry)) i) ⌝ }
+    ensures { λ r. ⌜ Turned d (now (chain .entry)) u s (systemOf u s (now (main .entry)) (now (store .entry)) (now (answers .entry)) i)
+        i r (now (main .exit)) (now (store .exit)) (now (answers .exit)) ⌝ }
 {
     let c = ccw_at(chain, i);
     let e = step(d, u, c, s, main, store);
@@ -112,10 +107,8 @@ pub fn run_chain(
     answers: &mut [u8],
 ) -> Walked
     requires { ⌜ (length (now chain) ≤ length (now answers)) × (length (now chain) ≤ 256) × Sound d s (now store) ⌝ }
-    ensures after { λ r. ⌜ systemLeft u (r .left) (now (main .exit)) (now (store .exit)) (now (answers .exit)) (r .reached)
-        ≡ runOf d (now (chain .entry)) (systemOf u s (now (main .entry)) (now (store .entry)) (now (answers .entry)) 0) ⌝ }
-    ensures left { λ r. ⌜ r .left
-        ≡ leftBy d (now (chain .entry)) s (systemOf u s (now (main .entry)) (now (store .entry)) (now (answers .entry)) 0) ⌝ }
+    ensures { λ r. ⌜ Walks d (now (chain .entry)) u s (systemOf u s (now (main .entry)) (now (store .entry)) (now (answers .entry)) 0)
+        r (now (main .exit)) (now (store .exit)) (now (answers .exit)) ⌝ }
 {
     let n = chain.len() / sizes::CCW;
     let mut state = s;

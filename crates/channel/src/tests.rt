@@ -4,11 +4,12 @@ use model::command;
 ghost use mathlib.Core.Path.{_≡_};
 ghost use mathlib.Core.Bool.{not, _&&_};
 ghost use mathlib.Core.List.{[], _∷_};
-ghost use Prim.Native.Nat.{_+_, _%_, _<_};
+ghost use Prim.Native.Nat.{_+_, _%_};
 ghost use Rattle.numbers.specs.Choice.{_<?_, _=?_, oneOf};
 ghost use Rattle.model.specs.Names.{NO-OPERATION};
 ghost use Rattle.model.specs.Rules.{firstOf};
 ghost use Rattle.model.specs.Causes.{channelCauses};
+ghost use Rattle.model.specs.Safe.{CcwFits};
 
 // The low four bits are 0 or 8: to the channel, no command.
 fn no_command(command: u8) -> bool
@@ -19,7 +20,7 @@ fn no_command(command: u8) -> bool
 
 // The data area leaves main storage. NO-OPERATION has none.
 fn leaves_storage(c: Ccw, held: usize) -> bool
-    requires { ⌜ (c .count < 65536) × (c .address < 16777216) ⌝ }
+    requires { ⌜ CcwFits c ⌝ }
     ensures { λ r. ⌜ r ≡ (not (c .command =? NO-OPERATION) && held <? c .address + c .count) ⌝ }
 {
     if c.command == command::NO_OPERATION {
@@ -30,7 +31,7 @@ fn leaves_storage(c: Ccw, held: usize) -> bool
 
 // In their order.
 pub fn channel_cause(c: Ccw, main: &[u8]) -> u8
-    requires { ⌜ (c .count < 65536) × (c .address < 16777216) ⌝ }
+    requires { ⌜ CcwFits c ⌝ }
     ensures { λ r. ⌜ r ≡ firstOf (channelCauses c (now (main .entry))) ⌝ }
 {
     let flags = c.flags;

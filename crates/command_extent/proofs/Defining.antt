@@ -15,8 +15,9 @@ use Rattle.model.specs.declared.state.Before.the-variants.{Other}
 use Rattle.model.specs.Names.{DEFINE-EXTENT}
 use Rattle.model.specs.Rules.{firstOf}
 use Rattle.model.specs.Lent.{fetched, blockCount}
-use Rattle.model.specs.Parameters.{extentLength, extentIn}
+use Rattle.model.specs.Parameters.{extentLength, extentIn, locateLength}
 use Rattle.model.specs.Causes.{extentCauses, defineExtentCauses}
+use Rattle.model.specs.Sense.{shown}
 use Rattle.model.specs.Commands.{out, ended, cleared, defineDone, defineExtent, decided, performed}
 use Rattle.model.proofs.Verdicts.{first-later, never-given}
 use Rattle.model.proofs.Steps.{performed-as}
@@ -26,7 +27,7 @@ use Rattle.unit_state.specs.declared.Running.{Running}
 use Rattle.unit_state.specs.Standing.{withExtent, stateOf, Handed}
 use Rattle.unit_state.proofs.Units.{with-extent, same-counts}
 use Rattle.endings.specs.declared.Ended.{Ended}
-use Rattle.endings.specs.Ending.{shown, Ends}
+use Rattle.endings.specs.Ending.{Ends}
 use Rattle.endings.proofs.Ends.{decided-by}
 use Rattle.command_extent.specs.Answers.{definedBy}
 
@@ -43,7 +44,7 @@ module _ (u : Record) (dev : Device) (c : Ccw) (s : Running) (main store : List 
       let bytes = fetched-array c main extentLength p f (omega (arith, h .area, l)) in
       let verdict : firstOf (defineExtentCauses dev (blockCount dev store) c (stateOf u s) (fetched c main extentLength)) ≡ firstOf (extentCauses dev (blockCount dev store) (fetched c main extentLength))
       = first-later _ _ (le-ltb _ _ l) ∙ first-later _ _ n in
-      decided-by u c s main store _ _ _ (withExtent s (s .counts) (extentIn (fetched c main extentLength)) Other) extentLength (zeros 8) r
+      decided-by u c s main store _ _ _ (withExtent s (s .counts) (extentIn (fetched c main extentLength)) Other) extentLength (zeros locateLength) r
       (performed-as dev c (stateOf u s) main store .define-extent k ∙ ap (λ (v : ℕ). decided c (stateOf u s) main store v (defineExtent c (cleared (stateOf u s)) main store)) verdict)
       (e ∙ rw (b, bytes) refl)
       (λ _. sym (pick-false _ _ _ (ne-eqb _ _ (never-given 39 (extentCauses dev (blockCount dev store) (fetched c main extentLength)) refl (λ z. omega arith)))))

@@ -10,7 +10,7 @@ use Rattle.model.specs.declared.ccw.Ccw.{Ccw}
 use Rattle.model.specs.declared.device.Device.{Device}
 use Rattle.model.specs.declared.state.Before.the-variants.{Other}
 use Rattle.model.specs.Rules.{firstOf}
-use Rattle.model.specs.Parameters.{extentLength, extentIn}
+use Rattle.model.specs.Parameters.{extentLength, extentIn, locateLength}
 use Rattle.model.specs.Causes.{extentCauses}
 use Rattle.unit_state.specs.declared.Running.{Running}
 use Rattle.unit_state.specs.Standing.{withExtent}
@@ -30,4 +30,4 @@ definedNumber PastDevice = 26
 unfoldable pub definedBy : Device → ℕ → Ccw → Running → List ℕ → Ended
 definedBy dev blocks c s p =
     let cause = firstOf (extentCauses dev blocks p) in
-    pick (cause =? 0) (endOf c (withExtent s (s .counts) (extentIn p) Other) extentLength extentLength 0 0 (zeros 8)) (endOf c s 0 0 0 cause (zeros 8))
+    pick (cause =? 0) (endOf c (withExtent s (s .counts) (extentIn p) Other) extentLength extentLength 0 0 (zeros locateLength)) (endOf c s 0 0 0 cause (zeros locateLength))

@@ -17,18 +17,18 @@ use unit_state::extent_set;
 ghost use mathlib.Core.Path.{_≡_};
 ghost use mathlib.Core.Bool.{not, _&&_, _||_};
 ghost use mathlib.Core.List.{[], _∷_};
-ghost use Prim.Native.Nat.{_≤_, _<_};
+ghost use Prim.Native.Nat.{_≤_};
 ghost use lib.Dec.{eqb, ltb};
 ghost use lib.ListN.{length};
 ghost use Rattle.numbers.specs.Bits.{bit, anyBit};
 ghost use Rattle.numbers.specs.Choice.{oneOf};
 ghost use Rattle.model.specs.Rules.{firstOf};
-ghost use Rattle.model.specs.Parameters.{extentIn, address};
 ghost use Rattle.model.specs.Causes.{extentCauses};
 ghost use Rattle.model.specs.declared.record.Record.{Record};
 ghost use Rattle.model.specs.Names.{DEFINE-EXTENT};
-ghost use Rattle.model.specs.Parameters.{extentLength};
+ghost use Rattle.model.specs.Parameters.{extentLength, extentIn, address};
 ghost use Rattle.model.specs.Commands.{performed};
+ghost use Rattle.model.specs.Safe.{CcwFits};
 ghost use Rattle.unit_state.specs.Standing.{stateOf, Sound, Handed};
 ghost use Rattle.endings.specs.Ending.{Ends};
 ghost use Rattle.command_extent.specs.Answers.{definedNumber, definedBy};
@@ -43,7 +43,7 @@ pub enum Defined {
 }
 
 impl Defined {
-    pub fn number(self) -> u8
+    fn number(self) -> u8
         ensures { λ r. ⌜ r ≡ definedNumber self ⌝ }
     {
         match self {
@@ -88,7 +88,7 @@ fn size_wrong(field: usize, size: usize) -> bool
     field != size
 }
 
-pub fn extent_in(p: &[u8]) -> Extent
+fn extent_in(p: &[u8]) -> Extent
     requires { ⌜ length (now p) ≡ extentLength ⌝ }
     ensures { λ r. ⌜ r ≡ extentIn (now (p .entry)) ⌝ }
 {
@@ -111,7 +111,7 @@ fn past_device(e: Extent, blocks: usize) -> bool
 }
 
 // The sixteen bytes, on this device, of so many blocks.
-pub fn define_parameters(d: Device, blocks: usize, p: &[u8]) -> Defined
+fn define_parameters(d: Device, blocks: usize, p: &[u8]) -> Defined
     requires { ⌜ length (now p) ≡ extentLength ⌝ }
     ensures { λ r. ⌜ definedNumber r ≡ firstOf (extentCauses d blocks (now (p .entry))) ⌝ }
 {
@@ -136,7 +136,7 @@ pub fn define_parameters(d: Device, blocks: usize, p: &[u8]) -> Defined
 
 // The command by its sixteen bytes.
 fn define_by(d: Device, blocks: usize, c: Ccw, s: Running, p: &[u8]) -> Ended
-    requires { ⌜ (length (now p) ≡ extentLength) × (extentLength ≤ c .count) × (c .count < 65536) ⌝ }
+    requires { ⌜ (length (now p) ≡ extentLength) × (extentLength ≤ c .count) × CcwFits c ⌝ }
     ensures { λ r. ⌜ r ≡ definedBy d blocks c s (now (p .entry)) ⌝ }
 {
     let answer = define_parameters(d, blocks, p);

@@ -16,6 +16,7 @@ use Rattle.model.specs.Rules.{firstOf}
 use Rattle.model.specs.Lent.{fetched}
 use Rattle.model.specs.Parameters.{locateLength, locatedIn}
 use Rattle.model.specs.Causes.{locationCauses, locateCauses}
+use Rattle.model.specs.Sense.{shown}
 use Rattle.model.specs.Commands.{out, ended, cleared, locateDone, locate, decided, performed}
 use Rattle.model.proofs.Verdicts.{first-later}
 use Rattle.model.proofs.Steps.{performed-as}
@@ -26,7 +27,7 @@ use Rattle.unit_state.specs.declared.Running.{Running}
 use Rattle.unit_state.specs.Standing.{withLocate, stateOf, Handed}
 use Rattle.unit_state.proofs.Units.{with-locate, same-counts}
 use Rattle.endings.specs.declared.Ended.{Ended}
-use Rattle.endings.specs.Ending.{shown, Ends}
+use Rattle.endings.specs.Ending.{Ends}
 use Rattle.endings.proofs.Ends.{decided-by}
 use Rattle.command_locate.specs.Answers.{locatedBy}
 

@@ -11,11 +11,12 @@ use Rattle.model.specs.declared.record.Record.{Record}
 use Rattle.model.specs.Rules.{firstOf}
 use Rattle.model.specs.Parameters.{locateLength, locatedIn}
 use Rattle.model.specs.Causes.{locationCauses}
+use Rattle.model.specs.Sense.{shown}
 use Rattle.log.specs.Counts.{withMovement}
 use Rattle.unit_state.specs.declared.Running.{Running}
 use Rattle.unit_state.specs.Standing.{withLocate, stateOf}
 use Rattle.endings.specs.declared.Ended.{Ended}
-use Rattle.endings.specs.Ending.{endOf, shown}
+use Rattle.endings.specs.Ending.{endOf}
 use Rattle.command_locate.specs.declared.Location.{Location}
 use Rattle.command_locate.specs.declared.Location.the-variants.{Found, BadModifier, BadOperation, BadCount, BadReplication, OutsideExtent, Forbidden, ReadOnly, NoAlternate}
 
@@ -33,4 +34,4 @@ locationNumber NoAlternate = 39
 unfoldable pub locatedBy : Record → Ccw → Running → List ℕ → Ended
 locatedBy u c s p =
     let cause = firstOf (locationCauses (stateOf u s) p) in
-    pick (cause =? 0) (endOf c (withLocate s (withMovement (s .counts)) (locatedIn p)) locateLength locateLength 0 0 (zeros 8)) (endOf c s 0 0 0 cause (shown cause p))
+    pick (cause =? 0) (endOf c (withLocate s (withMovement (s .counts)) (locatedIn p)) locateLength locateLength 0 0 (zeros locateLength)) (endOf c s 0 0 0 cause (shown cause p))

@@ -29,9 +29,10 @@ ghost use Rattle.model.specs.Rules.{firstOf};
 ghost use Rattle.model.specs.Lent.{fetched};
 ghost use Rattle.model.specs.Parameters.{locateLength, locatedIn, operations, writes, forbids, outside};
 ghost use Rattle.model.specs.Causes.{locationCauses, permissionCauses};
+ghost use Rattle.model.specs.Sense.{shown};
 ghost use Rattle.model.specs.Commands.{performed};
 ghost use Rattle.unit_state.specs.Standing.{stateOf, Handed};
-ghost use Rattle.endings.specs.Ending.{shown, Ends};
+ghost use Rattle.endings.specs.Ending.{Ends};
 ghost use Rattle.command_locate.specs.Answers.{locationNumber, locatedBy};
 
 pub enum Location {
@@ -47,7 +48,7 @@ pub enum Location {
 }
 
 impl Location {
-    pub fn number(self) -> u8
+    fn number(self) -> u8
         ensures { λ r. ⌜ r ≡ locationNumber self ⌝ }
     {
         match self {
@@ -71,7 +72,7 @@ fn modifier_wrong(byte: u8) -> bool
     byte & 0xE0 != 0
 }
 
-pub fn located_in(p: &[u8]) -> Located
+fn located_in(p: &[u8]) -> Located
     requires { ⌜ length (now p) ≡ locateLength ⌝ }
     ensures { λ r. ⌜ (r ≡ locatedIn (now (p .entry))) × (r .operation < 16) × (r .blocks < 65536) ⌝ }
 {
@@ -201,7 +202,7 @@ fn permit(u: Record, s: Running, l: Located, n: usize) -> Location
 }
 
 // The eight bytes, under the extent and on the unit of this state.
-pub fn locate_parameters(u: Record, s: Running, p: &[u8]) -> Location
+fn locate_parameters(u: Record, s: Running, p: &[u8]) -> Location
     requires { ⌜ length (now p) ≡ locateLength ⌝ }
     ensures { λ r. ⌜ locationNumber r ≡ firstOf (locationCauses (stateOf u s) (now (p .entry))) ⌝ }
 {

@@ -6,10 +6,11 @@ use Rattle.slices.specs.Parts.{zeros}
 use Rattle.model.specs.declared.ccw.Ccw.{Ccw}
 use Rattle.model.specs.declared.record.Counts.{Counts}
 use Rattle.model.specs.declared.state.Before.the-variants.{Other}
+use Rattle.model.specs.Parameters.{locateLength}
 use Rattle.unit_state.specs.declared.Running.{Running}
 use Rattle.unit_state.specs.Standing.{wentOn}
 use Rattle.endings.specs.declared.Ended.{Ended}
 use Rattle.endings.specs.Ending.{endOf}
 
 abbrev pub sentEnd : Ccw → Running → ℕ → Counts → Ended
-sentEnd c s can k = endOf c (wentOn s k Other) (min (c .count) can) can 0 0 (zeros 8)
+sentEnd c s can k = endOf c (wentOn s k Other) (min (c .count) can) can 0 0 (zeros locateLength)

@@ -3,8 +3,7 @@
 --     Placed, placed                       the located blocks lie in the store, and are not too many
 --     Transfer, reading, writing           a sound READ or WRITE
 --     no-locate, other-locate, passed      its two tests: refused by 41, by 42, or let through
---     Passed, move-asks, read-asks, done-asks
---                                          what that says of the blocks to move, and of the ending
+--     Passed, move-asks, done-asks         what that says of the blocks to move, and of the ending
 --     read-ends, write-ends, ipl-ends      the bytes that were moved, and the ending, are the command
 use Prim.Native.Nat.{ℕ, _+_, _*_, _≤_, _<_, min}
 use mathlib.Core.Path.{_≡_, refl, sym, ap, _∙_}
@@ -28,9 +27,10 @@ use Rattle.model.specs.State.{State}
 use Rattle.model.specs.Names.{write-check, READ, WRITE, READ-IPL}
 use Rattle.model.specs.Rules.{firstOf}
 use Rattle.model.specs.Lent.{fetched, delivered, blockCount, blocksFrom, blocksInto}
-use Rattle.model.specs.Parameters.{address, reads, writes}
+use Rattle.model.specs.Parameters.{locateLength, address, reads, writes}
 use Rattle.model.specs.Causes.{a-locate, transferCauses, readIplCauses}
 use Rattle.model.specs.Log.{writtenCounted}
+use Rattle.model.specs.Safe.{Usable, CcwFits}
 use Rattle.model.specs.Commands.{Out, ended, decided, after, cleared, begun, readDone, read, writeDone, write, wholeDevice, iplDone, readIpl, performed}
 use Rattle.model.proofs.Verdicts.{first-here, first-later, first-none}
 use Rattle.model.proofs.Safety.{on-device}
@@ -38,6 +38,7 @@ use Rattle.model.proofs.Lengths.{in-store}
 use Rattle.model.proofs.Steps.{performed-as}
 use Rattle.log.specs.Counts.{counted, withRead, withMovement}
 use Rattle.log.proofs.Counting.{read-counted, written-counted, movement-counted}
+use Rattle.blocks.specs.Places.{Movable}
 use Rattle.unit_state.specs.declared.Running.{Running}
 use Rattle.unit_state.specs.Standing.{wentOn, withExtent, stateOf, Sound, Handed}
 use Rattle.unit_state.proofs.Units.{went-on, with-extent, same-counts}
@@ -66,7 +67,7 @@ placed dev s store h b =
     let on : address (s .extent) (s .located .displacement) + n ≤ blockCount dev store = on-device (stateOf empty s) (blockCount dev store) safe b in
     let few : n ≤ 131072 = omega (arith, on, h .few-blocks) in
     let p = mul-le-mul-right (dev .block) few in
-    let q = mul-le-mul-left 131072 (h .small-size) in
+    let q = mul-le-mul-left 131072 (h .device .small-size) in
     record { some = safe .located b .1 .some; from-first = safe .located b .1 .from-first; room = in-store dev store _ on; few = few; product = omega (arith, p, q) }
 
 -- a sound READ or WRITE: its table is that of a transfer, and what it does where that gives no cause
@@ -91,12 +92,12 @@ pub record Passed (follows : ℕ → Bool) (dev : Device) (c : Ccw) (s : Running
 
 -- `b` and `f` are what the code asked: does a LOCATE stand directly before, and may the command follow it
 module _ {follows : ℕ → Bool} {dev : Device} {c : Ccw} {s : Running} {main store : List ℕ} (t : Transfer follows dev c s main store) {b : Bool} (before : b ≡ a-locate (s .before)) where
-  pub no-locate : {u : Record} {r : Ended} → not b ≡ true → r ≡ endOf c s 0 0 0 41 (zeros 8) → Ends u c s r main store (performed dev c (stateOf u s) main store)
+  pub no-locate : {u : Record} {r : Ended} → not b ≡ true → r ≡ endOf c s 0 0 0 41 (zeros locateLength) → Ends u c s r main store (performed dev c (stateOf u s) main store)
   unfolding transferCauses stateOf
   no-locate {u} {r} h e = refused-by u c s main store _ _ _ 41 r (t .is (stateOf u s)) e (first-here _ _ (ap not (sym before) ∙ h)) refl refl
 
   module _ {f : Bool} (located : f ≡ follows (s .located .operation)) (h : not b ≡ false) where
-    pub other-locate : {u : Record} {r : Ended} → not f ≡ true → r ≡ endOf c s 0 0 0 42 (zeros 8) → Ends u c s r main store (performed dev c (stateOf u s) main store)
+    pub other-locate : {u : Record} {r : Ended} → not f ≡ true → r ≡ endOf c s 0 0 0 42 (zeros locateLength) → Ends u c s r main store (performed dev c (stateOf u s) main store)
     unfolding transferCauses stateOf
     other-locate {u} {r} k e =
         refused-by u c s main store _ _ _ 42 r (t .is (stateOf u s)) e (first-later _ _ (ap not (sym before) ∙ h) ∙ first-here _ _ (ap not (sym located) ∙ k)) refl refl
@@ -111,16 +112,20 @@ unfolding transferCauses stateOf
 no-cause u p = first-later _ _ (ap not (p .located)) ∙ first-later _ _ (ap not (p .allowed)) ∙ first-none
 
 module _ {follows : ℕ → Bool} {dev : Device} {c : Ccw} {s : Running} {main store : List ℕ} (p : Passed follows dev c s main store) {m : Move} (e : m ≡ moveOf dev c s) where
-  pub move-asks : (1 ≤ dev .block) × (dev .block ≤ 65535) × ((m .block + s .located .blocks) * dev .block ≤ length store) × (m .n ≤ s .located .blocks * dev .block) × (c .address + m .n ≤ length main)
+  pub move-asks : Movable dev store (m .block) (s .located .blocks) c main 0 (m .n) × (1 ≤ s .located .blocks)
   move-asks =
       let sound = p .transfer .sound in
-      (sound .some-size, sound .small-size, rw e (placed dev s store sound (p .located) .room), rw e (omega arith), rw e (omega (arith, p .transfer .handed .area)))
+      let lies = placed dev s store sound (p .located) in (
+        record {
+          stored = record { device = sound .device; inside = rw e (lies .room) };
+          bytes = rw e (omega arith);
+          area = record { inside = rw e (omega (arith, p .transfer .handed .area)) };
+        },
+        lies .some,
+      )
 
-  pub read-asks : (1 ≤ dev .block) × (dev .block ≤ 65535) × ((m .block + s .located .blocks) * dev .block ≤ length store) × (m .n ≤ s .located .blocks * dev .block) × (c .address + m .n ≤ length main) × (1 ≤ s .located .blocks)
-  read-asks = (move-asks .0, move-asks .1, move-asks .2, move-asks .3, move-asks .4, placed dev s store (p .transfer .sound) (p .located) .some)
-
-  pub done-asks : (1 ≤ dev .block) × (dev .block ≤ 65535) × (c .count < 65536) × (m .n ≤ c .count)
-  done-asks = (p .transfer .sound .some-size, p .transfer .sound .small-size, p .transfer .handed .count, rw e (omega arith))
+  pub done-asks : Usable dev × CcwFits c × (m .n ≤ c .count)
+  done-asks = (p .transfer .sound .device, p .transfer .handed .ccw, rw e (omega arith))
 
 -- the endings, as the definition has them
 

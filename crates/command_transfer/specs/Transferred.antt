@@ -10,7 +10,7 @@ use Rattle.model.specs.declared.device.Device.{Device}
 use Rattle.model.specs.declared.record.Counts.{Counts}
 use Rattle.model.specs.declared.state.Before.the-variants.{Other, ReadIpl}
 use Rattle.model.specs.Names.{write-check}
-use Rattle.model.specs.Parameters.{address}
+use Rattle.model.specs.Parameters.{locateLength, address}
 use Rattle.model.specs.Commands.{begun, wholeDevice}
 use Rattle.log.specs.Counts.{withRead, withWritten, withMovement}
 use Rattle.unit_state.specs.declared.Running.{Running}
@@ -27,14 +27,14 @@ moveOf dev c s = record {
 }
 
 abbrev pub readEnd : Device → Ccw → Running → Move → Ended
-readEnd dev c s m = endOf c (wentOn s (withRead (begun dev (m .n)) (s .counts)) Other) (m .n) (m .can) (begun dev (m .n)) 0 (zeros 8)
+readEnd dev c s m = endOf c (wentOn s (withRead (begun dev (m .n)) (s .counts)) Other) (m .n) (m .can) (begun dev (m .n)) 0 (zeros locateLength)
 
 -- the counts after a WRITE of so many blocks: those of a write and check are counted
 unfoldable pub writtenBy : ℕ → ℕ → Counts → Counts
 writtenBy operation blocks k = pick (operation =? write-check) (withWritten blocks k) k
 
 abbrev pub writeEnd : Device → Ccw → Running → Move → Ended
-writeEnd dev c s m = endOf c (wentOn s (writtenBy (s .located .operation) (s .located .blocks) (s .counts)) Other) (m .n) (m .can) (begun dev (m .n)) 0 (zeros 8)
+writeEnd dev c s m = endOf c (wentOn s (writtenBy (s .located .operation) (s .located .blocks) (s .counts)) Other) (m .n) (m .can) (begun dev (m .n)) 0 (zeros locateLength)
 
 abbrev pub iplEnd : Device → Ccw → Running → ℕ → ℕ → Ended
-iplEnd dev c s n blocks = endOf c (withExtent s (withMovement (withRead 1 (s .counts))) (wholeDevice dev blocks) ReadIpl) n (dev .block) 1 0 (zeros 8)
+iplEnd dev c s n blocks = endOf c (withExtent s (withMovement (withRead 1 (s .counts))) (wholeDevice dev blocks) ReadIpl) n (dev .block) 1 0 (zeros locateLength)

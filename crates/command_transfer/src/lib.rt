@@ -29,6 +29,7 @@ ghost use Rattle.model.specs.Names.{READ, WRITE, READ-IPL};
 ghost use Rattle.model.specs.Parameters.{reads, writes};
 ghost use Rattle.model.specs.Causes.{a-locate, none-or-ipl};
 ghost use Rattle.model.specs.Commands.{wholeDevice, performed};
+ghost use Rattle.model.specs.Safe.{Usable, CcwFits};
 ghost use Rattle.unit_state.specs.Standing.{stateOf, Sound, Handed};
 ghost use Rattle.endings.specs.Ending.{Ends};
 ghost use Rattle.command_transfer.specs.Transferred.{moveOf, readEnd, writtenBy, writeEnd, iplEnd};
@@ -98,7 +99,7 @@ fn located_move(d: Device, c: Ccw, s: Running, store: &[u8]) -> Move
 }
 
 fn read_done(d: Device, c: Ccw, s: Running, m: Move) -> Ended
-    requires { ⌜ (1 ≤ d .block) × (d .block ≤ 65535) × (c .count < 65536) × (m .n ≤ c .count) ⌝ }
+    requires { ⌜ Usable d × CcwFits c × (m .n ≤ c .count) ⌝ }
     ensures { λ r. ⌜ r ≡ readEnd d c s m ⌝ }
 {
     let blocks = begun(d, m.n);
@@ -135,7 +136,7 @@ fn written(code: u32, blocks: usize, k: Counts) -> Counts
 }
 
 fn write_done(d: Device, c: Ccw, s: Running, m: Move) -> Ended
-    requires { ⌜ (1 ≤ d .block) × (d .block ≤ 65535) × (c .count < 65536) × (m .n ≤ c .count) × (s .located .blocks < 4294967296) ⌝ }
+    requires { ⌜ Usable d × CcwFits c × (m .n ≤ c .count) × (s .located .blocks < 4294967296) ⌝ }
     ensures { λ r. ⌜ r ≡ writeEnd d c s m ⌝ }
 {
     let l = s.located;
@@ -174,7 +175,7 @@ fn whole_device(d: Device, blocks: usize) -> Extent
 }
 
 fn ipl_done(d: Device, c: Ccw, s: Running, n: usize, blocks: usize) -> Ended
-    requires { ⌜ (1 ≤ blocks) × (blocks ≤ 131072) × (c .count < 65536) × (n ≤ c .count) ⌝ }
+    requires { ⌜ CcwFits c × (n ≤ c .count) × (1 ≤ blocks) × (blocks ≤ 131072) ⌝ }
     ensures { λ r. ⌜ r ≡ iplEnd d c s n blocks ⌝ }
 {
     let k = movement_counted(read_counted(1, s.counts));

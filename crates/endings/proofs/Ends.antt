@@ -10,43 +10,36 @@ use mathlib.Core.Bool.{false, _&&_}
 use mathlib.Core.List.{List}
 use borrow.Author.Tests.{eqb-false, ne-eqb}
 use Rattle.numbers.specs.Choice.{_=?_, pick}
-use Rattle.numbers.proofs.Choice.{pick-ind, pick-true, pick-false, pick-both}
+use Rattle.numbers.proofs.Choice.{pick-true, pick-false, pick-both}
 use Rattle.slices.specs.Parts.{zeros}
 use Rattle.model.specs.declared.ccw.Ccw.{Ccw}
 use Rattle.model.specs.declared.record.Record.{Record}
-use Rattle.model.specs.State.{State}
 use Rattle.model.specs.Names.{NO-OPERATION}
 use Rattle.model.specs.Lent.{fetched}
 use Rattle.model.specs.Parameters.{locateLength}
-use Rattle.model.specs.Causes.{kindOf}
-use Rattle.model.specs.Commands.{Out, out, leaves, ended, refused, decided}
+use Rattle.model.specs.Sense.{shown}
+use Rattle.model.specs.Commands.{Out, out, ended, refused, decided}
 use Rattle.model.specs.Answer.{residual}
-use Rattle.model.proofs.Leaving.{leaves-any}
 use Rattle.unit_state.specs.declared.Running.{Running}
 use Rattle.unit_state.specs.Standing.{stateOf}
 use Rattle.endings.specs.declared.Ended.{Ended}
-use Rattle.endings.specs.Ending.{endOf, shown, Ends}
+use Rattle.endings.specs.Ending.{endOf, Ends}
 
 module _ (u : Record) (c : Ccw) (s : Running) (main store : List ℕ) where
-  -- the parameters that a cause shows are all that its sense takes of them
-  shown-leaves : (t : State) (w : ℕ) (p : List ℕ) → leaves (kindOf w) t w (shown w p) ≡ leaves (kindOf w) t w p
-  unfolding shown
-  shown-leaves t w p = pick-ind (λ (q : List ℕ). leaves (kindOf w) t w q ≡ leaves (kindOf w) t w p) (w =? 39) p (zeros 8) (λ _. refl) (λ b. leaves-any (kindOf w) t w _ p (eqb-false _ _ b))
-
   pub refused-ends : (w : ℕ) (p : List ℕ) (r : Ended) → r ≡ endOf c s 0 0 0 w p → p ≡ shown w (fetched c main locateLength) → (w ≡ 0 → ⊥)
       → Ends u c s r main store (refused c (stateOf u s) main store w)
   unfolding refused residual
   refused-ends w p r e f n =
       rw (e, f)
       (record {
-        left = record { state = shown-leaves (stateOf u s) w (fetched c main locateLength); cause = refl; kept = λ z. absurd (n z); refused = λ _. refl; parameters = refl };
+        left = record { state = refl; cause = refl; kept = λ z. absurd (n z); refused = λ _. refl; parameters = refl };
         answer = refl;
         wrong = refl;
         main-same = refl;
         store-same = refl;
       })
 
-  pub accepted-ends : (t : Running) (moved can blocks : ℕ) (r : Ended) (main′ store′ : List ℕ) (o : Out) → r ≡ endOf c t moved can blocks 0 (zeros 8)
+  pub accepted-ends : (t : Running) (moved can blocks : ℕ) (r : Ended) (main′ store′ : List ℕ) (o : Out) → r ≡ endOf c t moved can blocks 0 (zeros locateLength)
       → t .kept ≡ (s .kept && c .command =? NO-OPERATION) → o .done ≡ ended (stateOf u t) moved can blocks → main′ ≡ o .main → store′ ≡ o .store
       → Ends u c s r main′ store′ o
   unfolding residual shown
@@ -79,21 +72,21 @@ module _ (u : Record) (c : Ccw) (s : Running) (main store : List ℕ) where
   -- x is a command that a table decides
 
   -- refused, by a cause that shows no parameters
-  pub refused-by : (x : Out) (v : ℕ) (o : Out) (w : ℕ) (r : Ended) → x ≡ decided c (stateOf u s) main store v o → r ≡ endOf c s 0 0 0 w (zeros 8) → v ≡ w → w =? 0 ≡ false → w =? 39 ≡ false
+  pub refused-by : (x : Out) (v : ℕ) (o : Out) (w : ℕ) (r : Ended) → x ≡ decided c (stateOf u s) main store v o → r ≡ endOf c s 0 0 0 w (zeros locateLength) → v ≡ w → w =? 0 ≡ false → w =? 39 ≡ false
       → Ends u c s r main store x
   unfolding shown
-  refused-by x v o w r d e f n m = rw d (decided-refused v w r o f (eqb-false _ _ n) (refused-ends w (zeros 8) r e (sym (pick-false _ _ _ m)) (eqb-false _ _ n)))
+  refused-by x v o w r d e f n m = rw d (decided-refused v w r o f (eqb-false _ _ n) (refused-ends w (zeros locateLength) r e (sym (pick-false _ _ _ m)) (eqb-false _ _ n)))
 
   -- accepted
   pub accepted-by : (x : Out) (v : ℕ) (o : Out) (t : Running) (moved can blocks : ℕ) (r : Ended) (main′ store′ : List ℕ)
-      → x ≡ decided c (stateOf u s) main store v o → v ≡ 0 → r ≡ endOf c t moved can blocks 0 (zeros 8)
+      → x ≡ decided c (stateOf u s) main store v o → v ≡ 0 → r ≡ endOf c t moved can blocks 0 (zeros locateLength)
       → t .kept ≡ (s .kept && c .command =? NO-OPERATION) → out (ended (stateOf u t) moved can blocks) main′ store′ ≡ o → Ends u c s r main′ store′ x
   accepted-by x v o t moved can blocks r main′ store′ d f e k p =
       rw d (decided-accepted v r main′ store′ o f (rw (← p) (accepted-ends t moved can blocks r main′ store′ _ e k refl refl refl)))
 
   -- by its parameters, and all that it moves is those
   pub decided-by : (x : Out) (v : ℕ) (o : Out) (t : Running) (n : ℕ) (p : List ℕ) (r : Ended)
-      → x ≡ decided c (stateOf u s) main store v o → r ≡ pick (v =? 0) (endOf c t n n 0 0 (zeros 8)) (endOf c s 0 0 0 v p)
+      → x ≡ decided c (stateOf u s) main store v o → r ≡ pick (v =? 0) (endOf c t n n 0 0 (zeros locateLength)) (endOf c s 0 0 0 v p)
       → (v =? 0 ≡ false → p ≡ shown v (fetched c main locateLength))
       → t .kept ≡ (s .kept && c .command =? NO-OPERATION) → out (ended (stateOf u t) n n 0) main store ≡ o → Ends u c s r main store x
   unfolding decided

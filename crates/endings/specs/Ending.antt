@@ -3,7 +3,6 @@
 --     marked                     those bytes, where the length is wrong
 --     wrongBy                    the length is wrong: of an accepted command alone
 --     endOf                      what `end` makes, whole
---     shown                      the parameters that are left beside a cause: the LOCATE's eight bytes with 39, else zeros
 --     Leaves                     what is left of the unit is what the definition's command left, and nothing in it is open
 --     Ends                       so is all that a command gives: the promise of every command
 -- Assumes nothing.
@@ -12,9 +11,8 @@ use mathlib.Core.Path.{_≡_}
 use mathlib.Core.Bool.{Bool, true, false, _&&_}
 use mathlib.Core.List.{List, _++_}
 use lib.ListN.{set}
-use Rattle.numbers.specs.Choice.{_=?_, pick}
+use Rattle.numbers.specs.Choice.{_=?_}
 use Rattle.numbers.specs.Big.{bytes4}
-use Rattle.slices.specs.Parts.{zeros}
 use Rattle.model.specs.declared.ccw.Ccw.{Ccw}
 use Rattle.model.specs.declared.kind.Kind.{Kind}
 use Rattle.model.specs.declared.kind.Kind.the-variants.{Accepted, ProgramCheck, UnitCheck}
@@ -23,6 +21,7 @@ use Rattle.model.specs.Names.{NO-OPERATION, INCORRECT-LENGTH}
 use Rattle.model.specs.Lent.{fetched}
 use Rattle.model.specs.Parameters.{locateLength}
 use Rattle.model.specs.Causes.{kindOf}
+use Rattle.model.specs.Sense.{shown}
 use Rattle.model.specs.Commands.{Out}
 use Rattle.model.specs.Answer.{unitStatus, channelBy, wrongLength, residual}
 use Rattle.unit_state.specs.declared.Running.{Running}
@@ -54,9 +53,6 @@ endOf c s moved can blocks cause parameters = record {
   answer = answerWords (kindOf cause) (c .count - moved) cause blocks;
   wrong = wrongBy (kindOf cause) c can;
 }
-
-unfoldable pub shown : ℕ → List ℕ → List ℕ
-shown cause parameters = pick (cause =? 39) parameters (zeros 8)
 
 -- in a chain that found record u, of a command that found state s
 pub record Leaves (u : Record) (c : Ccw) (s : Running) (l : Left) (o : Out) : Type 0 where

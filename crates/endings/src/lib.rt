@@ -14,6 +14,7 @@ ghost use Prim.Native.Nat.{_≤_, _<_};
 ghost use Rattle.slices.specs.Parts.{zeros};
 ghost use Rattle.model.specs.Parameters.{locateLength};
 ghost use Rattle.model.specs.Answer.{wrongLength};
+ghost use Rattle.model.specs.Safe.{CcwFits};
 ghost use Rattle.endings.specs.Ending.{answerWords, wrongBy, endOf};
 
 // Its bytes as two numbers: unit status, channel status, residual count (2); cause, zero, blocks moved (2).
@@ -77,7 +78,7 @@ pub fn end(
     cause: u8,
     parameters: [u8; sizes::LOCATE],
 ) -> Ended
-    requires { ⌜ (c .count < 65536) × (moved ≤ c .count) × (blocks < 65536) ⌝ }
+    requires { ⌜ CcwFits c × (moved ≤ c .count) × (blocks < 65536) ⌝ }
     ensures { λ r. ⌜ r ≡ endOf c s moved can blocks cause parameters ⌝ }
 {
     let kind = Kind::of(cause);
@@ -93,7 +94,7 @@ pub fn end(
 }
 
 pub fn accept(c: Ccw, s: Running, moved: usize, can: usize, blocks: usize) -> Ended
-    requires { ⌜ (c .count < 65536) × (moved ≤ c .count) × (blocks < 65536) ⌝ }
+    requires { ⌜ CcwFits c × (moved ≤ c .count) × (blocks < 65536) ⌝ }
     ensures { λ r. ⌜ r ≡ endOf c s moved can blocks 0 (zeros locateLength) ⌝ }
 {
     end(c, s, moved, can, blocks, 0, [0u8; sizes::LOCATE])
@@ -101,7 +102,7 @@ pub fn accept(c: Ccw, s: Running, moved: usize, can: usize, blocks: usize) -> En
 
 // A refusal has moved nothing. The parameters are those that its cause shows.
 pub fn refuse_showing(c: Ccw, s: Running, cause: u8, parameters: [u8; sizes::LOCATE]) -> Ended
-    requires { ⌜ c .count < 65536 ⌝ }
+    requires { ⌜ CcwFits c ⌝ }
     ensures { λ r. ⌜ r ≡ endOf c s 0 0 0 cause parameters ⌝ }
 {
     end(c, s, 0, 0, 0, cause, parameters)
@@ -109,7 +110,7 @@ pub fn refuse_showing(c: Ccw, s: Running, cause: u8, parameters: [u8; sizes::LOC
 
 // For any cause but 39, which alone shows them.
 pub fn refuse(c: Ccw, s: Running, cause: u8) -> Ended
-    requires { ⌜ c .count < 65536 ⌝ }
+    requires { ⌜ CcwFits c ⌝ }
     ensures { λ r. ⌜ r ≡ endOf c s 0 0 0 cause (zeros locateLength) ⌝ }
 {
     refuse_showing(c, s, cause, [0u8; sizes::LOCATE])

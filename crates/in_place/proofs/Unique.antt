@@ -2,40 +2,31 @@
 --     same-by         a result that is named, `r ≡ f x`: most functions, and the call with every buffer in one record
 --     told-unique     a test that is true exactly where a fact holds
 --     ends-unique     a command's ending with the two storages, `Ends u c s r main store ..`
---     defined-unique, location-unique   an answer that is known by its number
 --     status-unique, channel-unique     a status that is known by its byte
 --     log-unique                        a log that is known by its bytes
---     walked-unique, allowed-unique     the run of a chain, and of one that no cause refuses
+--     walks-unique, allowed-unique      the run of a chain, and of one that no cause refuses
 --     by-value-unique, in-place-unique         the run, by value and in place
 -- docs/PROOFS.md lists which function has which form. Assumes nothing.
 use Prim.Native.Nat.{ℕ}
 use mathlib.Core.Path.{_≡_, refl, sym, ap, _∙_}
 use mathlib.Core.Bool.{Bool, true, false}
 use mathlib.Core.List.{List}
-use lib.Dec.{eqb}
 use Rattle.model.specs.declared.ccw.Ccw.{Ccw}
 use Rattle.model.specs.declared.record.Record.{Record}
 use Rattle.model.specs.declared.record.Counts.{Counts}
 use Rattle.model.specs.Log.{logOf}
 use Rattle.model.specs.declared.status.Status.{Status}
 use Rattle.model.specs.declared.status.Channel.{Channel}
-use Rattle.numbers.specs.Choice.{pick}
-use Rattle.command_extent.specs.declared.Defined.{Defined}
-use Rattle.command_extent.specs.declared.Defined.the-variants.{Taken, BadMask, Maintenance, BadSize, FirstAfterLast, PastDevice}
-use Rattle.command_locate.specs.declared.Location.{Location}
-use Rattle.command_locate.specs.declared.Location.the-variants.{Found, BadModifier, BadOperation, BadCount, BadReplication, OutsideExtent, Forbidden, ReadOnly, NoAlternate}
-use Rattle.command_extent.specs.Answers.{definedNumber}
-use Rattle.command_locate.specs.Answers.{locationNumber}
 use Rattle.model.specs.Commands.{Out}
-use Rattle.model.specs.Chain.{System, Called, called}
+use Rattle.model.specs.declared.device.Device.{Device}
+use Rattle.model.specs.Chain.{System, called}
 use Rattle.log.specs.declared.Log.{Log}
 use Rattle.log.specs.Counts.{counted}
 use Rattle.unit_state.specs.declared.Running.{Running}
 use Rattle.endings.specs.declared.Ended.{Ended}
-use Rattle.unit_state.specs.declared.Left.{Left}
 use Rattle.endings.specs.Ending.{Ends}
 use Rattle.chain.specs.declared.run.Walked.{Walked}
-use Rattle.chain.specs.Walk.{systemLeft}
+use Rattle.chain.specs.Walk.{systemLeft, Walks, Allowed}
 use Rattle.chain.proofs.Runs.{left-known}
 use Rattle.model.specs.Lent.{newRecord}
 use Rattle.in_place.specs.declared.Ran.{Ran}
@@ -78,42 +69,6 @@ channel-unique n a b p q = λ i. record { 0 = same-by (a .0) (b .0) n p q i }
 pub log-unique : (k : Counts) (a b : Log) → ((u : Record) → a .0 ≡ logOf (counted u k)) → ((u : Record) → b .0 ≡ logOf (counted u k)) → a ≡ b
 log-unique k a b p q = λ i. record { 0 = same-by (a .0) (b .0) (logOf (counted (newRecord 0 0) k)) (p (newRecord 0 0)) (q (newRecord 0 0)) i }
 
--- the answer that has a number: there and back
-definedOf : ℕ → Defined
-definedOf n = pick (eqb n 22) BadMask (pick (eqb n 23) Maintenance (pick (eqb n 24) BadSize (pick (eqb n 25) FirstAfterLast (pick (eqb n 26) PastDevice Taken))))
-
-defined-back : (d : Defined) → definedOf (definedNumber d) ≡ d
-unfolding definedOf pick
-defined-back Taken = refl
-defined-back BadMask = refl
-defined-back Maintenance = refl
-defined-back BadSize = refl
-defined-back FirstAfterLast = refl
-defined-back PastDevice = refl
-
-pub defined-unique : (n : ℕ) (a b : Defined) → definedNumber a ≡ n → definedNumber b ≡ n → a ≡ b
-defined-unique n a b p q = sym (defined-back a) ∙ ap definedOf (p ∙ sym q) ∙ defined-back b
-
-locationOf : ℕ → Location
-locationOf n =
-    pick (eqb n 32) BadModifier (pick (eqb n 33) BadOperation (pick (eqb n 34) BadCount (pick (eqb n 35) BadReplication
-    (pick (eqb n 36) OutsideExtent (pick (eqb n 37) Forbidden (pick (eqb n 38) ReadOnly (pick (eqb n 39) NoAlternate Found)))))))
-
-location-back : (l : Location) → locationOf (locationNumber l) ≡ l
-unfolding locationOf pick
-location-back Found = refl
-location-back BadModifier = refl
-location-back BadOperation = refl
-location-back BadCount = refl
-location-back BadReplication = refl
-location-back OutsideExtent = refl
-location-back Forbidden = refl
-location-back ReadOnly = refl
-location-back NoAlternate = refl
-
-pub location-unique : (n : ℕ) (a b : Location) → locationNumber a ≡ n → locationNumber b ≡ n → a ≡ b
-location-unique n a b p q = sym (location-back a) ∙ ap locationOf (p ∙ sym q) ∙ location-back b
-
 -- the run of a chain: what is left, the commands reached, and what was lent
 pub record SameWalk (v w : Walked) (main main′ store store′ answers answers′ : List ℕ) : Type 0 where
   pub walked : v ≡ w
@@ -121,21 +76,20 @@ pub record SameWalk (v w : Walked) (main main′ store store′ answers answers�
   pub store-same : store ≡ store′
   pub answers-same : answers ≡ answers′
 
-module _ (u : Record) (l : Left) (v w : Walked) (m₁ s₁ a₁ m₂ s₂ a₂ : List ℕ) (left : v .left ≡ l) (left′ : w .left ≡ l) where
-  pub allowed-unique : (c : Called) → called 0 (systemLeft u (v .left) m₁ s₁ a₁ (v .reached)) ≡ c → called 0 (systemLeft u (w .left) m₂ s₂ a₂ (w .reached)) ≡ c
-      → SameWalk v w m₁ m₂ s₁ s₂ a₁ a₂
-  allowed-unique c p q =
-      let e = same-by _ _ c p q in
-      let f = same-by _ _ l left left′ in
-      record {
-        walked = λ i. record { left = f i; reached = e i .reached };
-        main-same = λ i. e i .main;
-        store-same = λ i. e i .store;
-        answers-same = λ i. e i .answers;
-      }
+module _ (u : Record) (v w : Walked) (m₁ s₁ a₁ m₂ s₂ a₂ : List ℕ) where
+  same-walk : called 0 (systemLeft u (v .left) m₁ s₁ a₁ (v .reached)) ≡ called 0 (systemLeft u (w .left) m₂ s₂ a₂ (w .reached)) → v .left ≡ w .left → SameWalk v w m₁ m₂ s₁ s₂ a₁ a₂
+  same-walk e f = record {
+    walked = λ i. record { left = f i; reached = e i .reached };
+    main-same = λ i. e i .main;
+    store-same = λ i. e i .store;
+    answers-same = λ i. e i .answers;
+  }
 
-  pub walked-unique : (y : System) → systemLeft u (v .left) m₁ s₁ a₁ (v .reached) ≡ y → systemLeft u (w .left) m₂ s₂ a₂ (w .reached) ≡ y → SameWalk v w m₁ m₂ s₁ s₂ a₁ a₂
-  walked-unique y p q = allowed-unique (called 0 y) (ap (called 0) p) (ap (called 0) q)
+  pub walks-unique : (dev : Device) (chain : List ℕ) (s : Running) (y : System) → Walks dev chain u s y v m₁ s₁ a₁ → Walks dev chain u s y w m₂ s₂ a₂ → SameWalk v w m₁ m₂ s₁ s₂ a₁ a₂
+  walks-unique dev chain s y p q = same-walk (ap (called 0) (p .after ∙ sym (q .after))) (p .left ∙ sym (q .left))
+
+  pub allowed-unique : (chain main store answers : List ℕ) → Allowed u chain main store answers v m₁ s₁ a₁ → Allowed u chain main store answers w m₂ s₂ a₂ → SameWalk v w m₁ m₂ s₁ s₂ a₁ a₂
+  allowed-unique chain main store answers p q = same-walk (p .after ∙ sym (q .after)) (p .left ∙ sym (q .left))
 
 pub record SameRun (v w : Ran) (storage storage′ store store′ answers answers′ : List ℕ) : Type 0 where
   pub unit-same : v .unit ≡ w .unit

@@ -1,5 +1,5 @@
-// The run over a unit record that is lent and updated in place: `run`. `run_core` is the same by value, and
-// `run_lending` lends a record of its own to `run`. None has a requires; a result is 256 times the cause plus the commands reached.
+// The run over a unit record that is lent and updated in place: `run`; `run_lending` lends it a record of its own. Neither has a
+// requires; a result is 256 times the cause plus the commands reached.
 use chain::call::call;
 use model::record::Record;
 ghost use mathlib.Core.Path.{_≡_};
@@ -22,7 +22,7 @@ fn result_of(cause: u8, reached: usize) -> u32
 }
 
 // The core, by value.
-pub fn run_core(
+fn run_core(
     r: Record,
     chain: &[u8],
     storage: &mut [u8],

@@ -82,7 +82,7 @@ pub struct Log(pub [u8; sizes::SENSE]);
 impl Log {
     pub const ENVIRONMENTAL: usize = 2;
 
-    pub const FORMAT: usize = 7;
+    pub const FORMAT_MESSAGE: usize = 7;
 
     pub const BLOCKS_READ: usize = 8;
 
@@ -99,7 +99,7 @@ impl Log {
         let movements = k.movements;
         let mut log = [0u8; sizes::SENSE];
         log[Log::ENVIRONMENTAL] = 0x10; // bit 3: environmental data present
-        log[Log::FORMAT] = 0x68; // format 6, message 8
+        log[Log::FORMAT_MESSAGE] = 0x68; // format 6, message 8
         put_at(&mut log, Log::BLOCKS_READ, &read, 3);
         put_at(&mut log, Log::BLOCKS_WRITTEN, &written, 3);
         put_at(&mut log, Log::MOVEMENTS, &movements, 2);

@@ -23,7 +23,7 @@ use Rattle.model.specs.Rules.{Rule, _when_, firstOf}
 use Rattle.model.specs.Lent.{fetched, delivered, blockCount, blocksFrom}
 use Rattle.model.specs.Parameters.{locateLength, locatedIn, address, reads, writes}
 use Rattle.model.specs.Causes.{channelCauses, unitCauses, extentCauses, defineExtentCauses, permissionCauses, locationCauses, locateCauses, readIplCauses, transferCauses, verdict, a-locate, kindOf}
-use Rattle.model.specs.Sense.{senseOf}
+use Rattle.model.specs.Sense.{shown, senseOf}
 use Rattle.model.specs.Log.{withSense, movementCounted, logOf, logReset}
 use Rattle.model.specs.Commands.{Out, after, extentSet, locateSet, noOperation, defineExtent, locate, sent, sense, senseType, readLog, begun, read, write, accepted, refusal, refused, cleared, seen, decided, step, defineDone, locateDone, readDone, writeDone}
 use Rattle.model.specs.Safe.{InExtent, Safe}
@@ -39,9 +39,9 @@ use Rattle.model.proofs.AlikeVerdicts.{Fits, area, fetched-same, extent
 -- a refused command
 
 -- cause 39 alone shows parameters, and it is a LOCATE's, which has them
-shown : (dev : Device) (c : Ccw) (s : State) (m x : List ℕ) → verdict dev c s m x ≡ 39 → (c .command ≡ LOCATE) × (locateLength ≤ c .count)
+locate-shows : (dev : Device) (c : Ccw) (s : State) (m x : List ℕ) → verdict dev c s m x ≡ 39 → (c .command ≡ LOCATE) × (locateLength ≤ c .count)
 unfolding channelCauses unitCauses extentCauses defineExtentCauses permissionCauses locationCauses locateCauses readIplCauses transferCauses
-shown dev c s m x e =
+locate-shows dev c s m x e =
     let Q : Type 0 = (c .command ≡ LOCATE) × (locateLength ≤ c .count) in
     let elsewhere : (rs : List Rule) → absent 39 rs ≡ true → firstOf rs ≡ 39 → Q = λ rs a v. absurd (never-given 39 rs a (λ z. omega arith) v) in
     own-cases dev c s m x (λ rs. firstOf rs ≡ 39 → Q)
@@ -51,18 +51,17 @@ shown dev c s m x e =
     (past-channel dev c s m x 39 refl e .1)
 
 module _ (dev : Device) (F : Place) (c : Ccw) (f : Fits F c) (s t : State) (r : States F s t) (m m′ : List ℕ) (g : Mains F m m′) (x x′ : List ℕ) (h : Stores dev F x x′) where
-  sense-same : (w : ℕ) → verdict dev c s m x ≡ w → senseOf w (fetched c m locateLength) ≡ senseOf w (fetched c m′ locateLength)
-  unfolding senseOf
-  sense-same w e =
-      let p = pick-both _≡_ (w =? 39) (fetched c m locateLength) (zeros 8) (fetched c m′ locateLength) (zeros 8)
-      (λ b. let l = shown dev c s m x (e ∙ eqb-true _ _ b) in fetched-same F c m m′ f g locateLength (λ d. omega (arith, l .0)) (omega (arith, l .1)) (l .1))
-      (λ _. refl) in
-      rw p
+  shown-same : (w : ℕ) → verdict dev c s m x ≡ w → shown w (fetched c m locateLength) ≡ shown w (fetched c m′ locateLength)
+  unfolding shown
+  shown-same w e =
+      pick-both _≡_ (w =? 39) _ _ _ _
+      (λ b. let l = locate-shows dev c s m x (e ∙ eqb-true _ _ b) in fetched-same F c m m′ f g locateLength (λ d. omega (arith, l .0)) (omega (arith, l .1)) (l .1))
+      (λ _. refl)
 
   refused-alike : (w : ℕ) → verdict dev c s m x ≡ w → Outs dev F (refused c s m x w) (refused c t m′ x′ w)
   unfolding refused
   refused-alike w e =
-      let left = leaves-both (States F) (kindOf w) s t w (fetched c m locateLength) (fetched c m′ locateLength) r (states-after F s t _ _ _ _ (r .unit) refl r) (states-after F s t _ _ _ _ (rw (r .unit, sense-same w e)) refl r) in
+      let left = leaves-both (States F) (kindOf w) s t w (shown w (fetched c m locateLength)) (shown w (fetched c m′ locateLength)) r (states-after F s t _ _ _ _ (r .unit) refl r) (states-after F s t _ _ _ _ (rw (r .unit, shown-same w e)) refl r) in
       record { dones = record { cause = refl; moved = refl; can = refl; blocks = refl; states = left }; mains = g; stores = h }
 
   -- commands that move no block

@@ -25,7 +25,7 @@ use Rattle.model.specs.Rules.{Rule, firstOf}
 use Rattle.model.specs.Lent.{fetched, delivered, blockAt, blocksFrom, blocksInto}
 use Rattle.model.specs.Parameters.{locateLength}
 use Rattle.model.specs.Causes.{channelCauses, unitCauses, extentCauses, defineExtentCauses, permissionCauses, locationCauses, locateCauses, readIplCauses, transferCauses, ownCauses, causesOf, verdict, kindOf}
-use Rattle.model.specs.Sense.{CauseRow, senseTable, rowIn, senseOf}
+use Rattle.model.specs.Sense.{CauseRow, senseTable, rowIn, shown, senseOf}
 use Rattle.model.specs.Log.{withSense, withCounts, added3, added2, readCounted, writtenCounted, movementCounted, logOf, logReset}
 use Rattle.model.specs.Commands.{Out, noOperation, defineExtent, locate, sent, sense, senseType, readLog, begun, read, write, readIpl, refused, refusal, cleared, seen, after, extentSet, locateSet, step, defineDone, iplDone, locateDone, readDone, writeDone}
 use Rattle.model.specs.Exactly.{absent}
@@ -105,13 +105,16 @@ sense-bytes w p b =
     let r = row-in senseTable refl w in
     bytes-put _ _ _ (bytes-put _ _ _ (bytes-put _ _ _ (bytes-zeros 24) (bytes-cons _ _ (r .byte0) (bytes-cons _ _ (r .byte1) bytes-nil)))
     (bytes-cons _ _ (r .byte7) bytes-nil))
-    (pick-ind AreBytes _ _ _ (λ _. b) (λ _. bytes-zeros 8))
+    b
 
-sense-length : (w : ℕ) (p : List ℕ) → (w ≡ 39 → length p ≡ 8) → length (senseOf w p) ≡ 24
+sense-length : (w : ℕ) (p : List ℕ) → length p ≡ locateLength → length (senseOf w p) ≡ 24
 unfolding senseOf
-sense-length w p h =
-    let k : length (pick (w =? 39) p (zeros 8)) ≡ 8 = pick-ind (λ (l : List ℕ). length l ≡ 8) _ _ _ (λ b. h (eqb-true _ _ b)) (λ _. length-zeros 8) in
-    length-put-is 24 _ _ _ (length-put-is 24 _ _ _ (length-put-is 24 _ _ _ (length-zeros 24) (omega arith)) (omega arith)) (rw k (omega arith))
+sense-length w p h = length-put-is 24 _ _ _ (length-put-is 24 _ _ _ (length-put-is 24 _ _ _ (length-zeros 24) (omega arith)) (omega arith)) (rw h (omega arith))
+
+-- the parameters that a cause shows are eight bytes, if those of 39 are
+shown-sized : (w : ℕ) (p : List ℕ) → (w ≡ 39 → length p ≡ locateLength) → AreBytes p → Sized locateLength (shown w p)
+unfolding shown
+shown-sized w p h b = pick-ind (Sized locateLength) _ _ _ (λ t. record { long = h (eqb-true _ _ t); bytes = b }) (λ _. sized-zeros locateLength)
 
 located-long : (c : Ccw) (s : State) (p : List ℕ) → firstOf (locateCauses c s p) ≡ 39 → locateLength ≤ c .count
 unfolding locateCauses locationCauses permissionCauses firstOf
@@ -197,8 +200,10 @@ module _ (dev : Device) (c : Ccw) (s : State) (main store : List ℕ) (h : 1 ≤
   refused-fields : (w : ℕ) → verdict dev c s main store ≡ w → Fields c (refused c s main store w)
   unfolding refused after fetched
   refused-fields w e = record {
-    unit-fields = leaves-ind (λ (t : State). IsRecord (t .unit)) (kindOf w) s w (fetched c main locateLength) r r
-        (sense-record (s .unit) _ (record { long = sense-length w _ (λ z. located-bytes dev c s main store (e ∙ z)); bytes = sense-bytes w _ (bytes-part main _ _ m) }) r);
+    unit-fields =
+        let p = shown-sized w (fetched c main locateLength) (λ z. located-bytes dev c s main store (e ∙ z)) (bytes-part main _ _ m) in
+        leaves-ind (λ (t : State). IsRecord (t .unit)) (kindOf w) s w (shown w (fetched c main locateLength)) r r
+        (sense-record (s .unit) _ (record { long = sense-length w _ (p .long); bytes = sense-bytes w _ (p .bytes) }) r);
     main-bytes = m;
     store-bytes = d;
     cause-byte = rw (← e) (verdict-small dev c s main store);

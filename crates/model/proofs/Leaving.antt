@@ -1,15 +1,14 @@
 -- Laws of the kinds of causes. No contract cites this file.
 --     leaves-ind, leaves-both   a property of what each kind leaves is one of what a command leaves
---     leaves-any                parameters show in cause 39 alone
 --     channel-refused           the channel status of a refusal does not look at the length
 --     status-byte, channel-byte   the statuses are bytes
 use Prim.Native.Nat.{ℕ, _<_}
-use mathlib.Core.Path.{_≡_, refl, ap}
+use mathlib.Core.Path.{_≡_, refl}
 use mathlib.Core.Bool.{Bool, true, false}
 use mathlib.Core.List.{List, [], _∷_}
 use borrow.Author.Tests.{ne-eqb}
 use native.Mathlib.Omega.{arith}
-use Rattle.numbers.specs.Choice.{pick, oneOf}
+use Rattle.numbers.specs.Choice.{oneOf}
 use Rattle.model.specs.declared.kind.Kind.{Kind}
 use Rattle.model.specs.declared.kind.Kind.the-variants.{Accepted, ProgramCheck, UnitCheck}
 use Rattle.model.specs.declared.state.Before.the-variants.{Other}
@@ -43,15 +42,6 @@ channel-byte Accepted true = omega arith
 channel-byte Accepted false = omega arith
 channel-byte ProgramCheck wrong = omega arith
 channel-byte UnitCheck wrong = omega arith
-
-sense-any : (w : ℕ) (p q : List ℕ) → (w ≡ 39 → ⊥) → senseOf w p ≡ senseOf w q
-unfolding senseOf pick
-sense-any w p q n = rw (ne-eqb w 39 n)
-
-pub leaves-any : (k : Kind) (s : State) (w : ℕ) (p q : List ℕ) → (w ≡ 39 → ⊥) → leaves k s w p ≡ leaves k s w q
-leaves-any Accepted s w p q n = refl
-leaves-any ProgramCheck s w p q n = refl
-leaves-any UnitCheck s w p q n = ap (λ (l : List ℕ). after s (withSense (s .unit) l) Other) (sense-any w p q n)
 
 pub channel-refused : (w : ℕ) (a b : Bool) → (w ≡ 0 → ⊥) → channelBy (kindOf w) a ≡ channelBy (kindOf w) b
 channel-refused w a b n = rw (ne-eqb w 0 n) (go (oneOf (10 ∷ 11 ∷ 12 ∷ 13 ∷ []) w))

@@ -29,7 +29,7 @@ use Rattle.model.specs.Rules.{firstOf}
 use Rattle.model.specs.Lent.{fetched, delivered, blockCount, blocksFrom, blocksInto}
 use Rattle.model.specs.Parameters.{extentLength, extentIn, locateLength, locatedIn, address}
 use Rattle.model.specs.Causes.{kindOf, ownCauses, verdict}
-use Rattle.model.specs.Sense.{senseOf}
+use Rattle.model.specs.Sense.{shown, senseOf}
 use Rattle.model.specs.Log.{withSense, readCounted, writtenCounted, movementCounted, logOf, logReset}
 
 pub record Out : Type 0 where
@@ -163,7 +163,7 @@ abbrev pub refusal : State → ℕ → List ℕ → Done
 refusal s cause parameters = ending s cause parameters 0 0 0
 
 unfoldable pub refused : Ccw → State → List ℕ → List ℕ → ℕ → Out
-refused c s main store cause = out (refusal s cause (fetched c main locateLength)) main store
+refused c s main store cause = out (refusal s cause (shown cause (fetched c main locateLength))) main store
 
 -- "Each command that the unit sees, other than 03 and 04, zeroes the pending sense before its tests"
 unfoldable pub cleared : State → State

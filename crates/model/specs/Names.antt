@@ -84,8 +84,8 @@ read-replicated = 2
 abbrev pub environmental-at : ℕ
 environmental-at = 2
 
-abbrev pub format-at : ℕ
-format-at = 7
+abbrev pub format-message-at : ℕ
+format-message-at = 7
 
 abbrev pub parameters-at : ℕ
 parameters-at = 8

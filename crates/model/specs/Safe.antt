@@ -1,4 +1,6 @@
--- A state of a chain that stays on the device. No way in asks for it; functions between them hand it on.
+-- What functions hand on from one to the other: a device, a CCW, and a state of a chain that stays on the device. No way in asks for it.
+--     Usable     a device that a chain may run on: a block has 1 to 65,535 bytes
+--     CcwFits    the numbers of a CCW are no larger than their bytes hold
 --     OnDevice   the extent is in order, and its last block is one of the device's
 --     InExtent   the blocks of a LOCATE are in the extent
 --     Safe       the extent that stands is on the device, and the LOCATE directly before is in it
@@ -6,11 +8,21 @@
 use Prim.Native.Nat.{ℕ, _+_, _≤_, _<_}
 use mathlib.Core.Path.{_≡_}
 use mathlib.Core.Bool.{true}
+use Rattle.model.specs.declared.ccw.Ccw.{Ccw}
+use Rattle.model.specs.declared.device.Device.{Device}
 use Rattle.model.specs.declared.extent.Extent.{Extent}
 use Rattle.model.specs.declared.extent.Located.{Located}
 use Rattle.model.specs.State.{State}
 use Rattle.model.specs.Parameters.{address}
 use Rattle.model.specs.Causes.{a-locate}
+
+pub record Usable (dev : Device) : Type 0 where
+  pub some-size : 1 ≤ dev .block
+  pub small-size : dev .block ≤ 65535
+
+pub record CcwFits (c : Ccw) : Type 0 where
+  pub count : c .count < 65536
+  pub address : c .address < 16777216
 
 pub record OnDevice (e : Extent) (blocks : ℕ) : Type 0 where
   pub order : e .first .0 ≤ e .last .0

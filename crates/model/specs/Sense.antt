@@ -1,12 +1,14 @@
 -- The sense bytes of each cause (01, Causes; 002, 5.1 to 5.3). docs/SENSE.md says why each is what it is.
 --     senseTable   bytes 0, 1 and 7 of each unit check: one table
---     senseOf      the 24 bytes of a refusal
+--     shown        the parameters that a cause shows
+--     senseOf      the 24 bytes of a refusal that shows these
 -- Assumes nothing.
 use Prim.Native.Nat.{ℕ}
 use mathlib.Core.List.{List, [], _∷_}
 use Rattle.slices.specs.Parts.{zeros, put}
-use Rattle.model.specs.Names.{format-at, parameters-at}
+use Rattle.model.specs.Names.{format-message-at, parameters-at}
 use Rattle.numbers.specs.Choice.{_=?_, pick}
+use Rattle.model.specs.Parameters.{locateLength}
 
 pub record CauseRow : Type 0 where
   pub cause : ℕ
@@ -49,9 +51,13 @@ unfoldable pub rowIn : List CauseRow → ℕ → CauseRow
 rowIn [] cause = row cause 0 0 0
 rowIn (r ∷ rs) cause = pick (r .cause =? cause) r (rowIn rs cause)
 
--- Bytes 0, 1 and 7 by the table; 8-15 the LOCATE's eight bytes for 39 (002, 5.2); all others zero
+-- 002, 5.2: the LOCATE's eight bytes with 39, and with no other cause
+unfoldable pub shown : ℕ → List ℕ → List ℕ
+shown cause parameters = pick (cause =? 39) parameters (zeros locateLength)
+
+-- Bytes 0, 1 and 7 by the table; 8-15 what the cause shows; all others zero
 unfoldable pub senseOf : ℕ → List ℕ → List ℕ
 senseOf cause parameters =
     let r = rowIn senseTable cause in
-    let headed = put (put (zeros 24) 0 (r .byte0 ∷ r .byte1 ∷ [])) format-at (r .byte7 ∷ []) in
-    put headed parameters-at (pick (cause =? 39) parameters (zeros 8))
+    let headed = put (put (zeros 24) 0 (r .byte0 ∷ r .byte1 ∷ [])) format-message-at (r .byte7 ∷ []) in
+    put headed parameters-at parameters

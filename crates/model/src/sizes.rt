@@ -15,3 +15,10 @@ pub const SENSE: usize = 24;
 
 // Of class A.
 pub const BLOCK: usize = 512;
+
+// The most that may be lent: bytes of a chain, bytes of main storage, blocks of a store.
+pub const MOST_CHAIN: usize = 256;
+
+pub const MOST_STORAGE: usize = 16777216;
+
+pub const MOST_BLOCKS: usize = 131072;

@@ -1,7 +1,7 @@
 -- What the stores of `sense_of` leave is what the definition says.
 --     rowOf                      the definition's row of a cause, as the code's table holds it
 --     row-before, row-past       a cause below the table's, and one above them, has none
---     sense-plain, sense-shown   the sense of a cause; of 39, which shows the parameters
+--     sense-stored               the row's three bytes, and then the parameters
 -- No contract cites this file.
 use Prim.Native.Nat.{ℕ, _≤_, _<_}
 use mathlib.Core.Path.{_≡_, refl}
@@ -10,7 +10,6 @@ use mathlib.Core.List.{List, [], _∷_}
 use native.Mathlib.Omega.{arith}
 use native.Mathlib.Nat.{le-of-eq}
 use borrow.Author.Tests.{ltb-true, ne-eqb}
-use lib.Dec.{eqb}
 use lib.ListN.{length, take, set, replicate}
 use lib.Seq.{take-all}
 use Rattle.slices.specs.Parts.{zeros, put}
@@ -45,15 +44,7 @@ pub row-past : (cause : ℕ) → 44 < cause → record { 0 = 0; 1 = 0; 2 = 0 } �
 unfolding below
 row-past cause h = rw (past senseTable 45 cause refl h)
 
--- with a row's three bytes stored
-abbrev with-row : SenseRow → List ℕ
-with-row r = put (replicate 24 0) 0 (take 8 (set (set (set (replicate 8 0) 0 (r .0)) 1 (r .1)) 7 (r .2)))
-
-pub sense-plain : (cause : ℕ) (parameters : List ℕ) (r : SenseRow) → r ≡ rowOf cause → eqb cause 39 ≡ false → with-row r ≡ senseOf cause parameters
-unfolding senseOf put zeros pick
-sense-plain cause parameters r d e = rw (d, e)
-
-pub sense-shown : (cause : ℕ) (parameters : List ℕ) (r : SenseRow) → r ≡ rowOf cause → eqb cause 39 ≡ true → length parameters ≡ 8
-    → put (with-row r) 8 (take 8 parameters) ≡ senseOf cause parameters
-unfolding senseOf put zeros pick
-sense-shown cause parameters r d e n = rw (d, e, take-all 8 parameters (le-of-eq n))
+pub sense-stored : (cause : ℕ) (parameters : List ℕ) (r : SenseRow) → r ≡ rowOf cause → length parameters ≡ 8
+    → put (put (replicate 24 0) 0 (take 8 (set (set (set (replicate 8 0) 0 (r .0)) 1 (r .1)) 7 (r .2)))) 8 (take 8 parameters) ≡ senseOf cause parameters
+unfolding senseOf put zeros
+sense-stored cause parameters r d n = rw (d, take-all 8 parameters (le-of-eq n))

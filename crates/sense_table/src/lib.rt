@@ -9,7 +9,7 @@ pub struct SenseRow(pub u8, pub u8, pub u8);
 
 // Where the third byte stands in sense, and where the parameters of a LOCATE do.
 impl SenseRow {
-    pub const FORMAT: usize = 7;
+    pub const FORMAT_MESSAGE: usize = 7;
 
     pub const PARAMETERS: usize = 8;
 }
@@ -81,7 +81,7 @@ fn row_of(cause: u8) -> SenseRow
     SENSE_ROWS[(cause - FIRST) as usize]
 }
 
-// The 24 sense bytes of a cause. `parameters` are the LOCATE's, which 39 alone shows.
+// The 24 sense bytes of a cause, which shows these parameters.
 pub fn sense_of(cause: u8, parameters: [u8; sizes::LOCATE]) -> [u8; sizes::SENSE]
     ensures { λ r. ⌜ r ≡ senseOf cause parameters ⌝ }
 {
@@ -89,11 +89,9 @@ pub fn sense_of(cause: u8, parameters: [u8; sizes::LOCATE]) -> [u8; sizes::SENSE
     let mut head = [0u8; SenseRow::PARAMETERS];
     head[0] = row.0;
     head[1] = row.1;
-    head[SenseRow::FORMAT] = row.2;
+    head[SenseRow::FORMAT_MESSAGE] = row.2;
     let mut sense = [0u8; sizes::SENSE];
     put_at(&mut sense, 0, &head, SenseRow::PARAMETERS);
-    if cause == 39 {
-        put_at(&mut sense, SenseRow::PARAMETERS, &parameters, sizes::LOCATE);
-    }
+    put_at(&mut sense, SenseRow::PARAMETERS, &parameters, sizes::LOCATE);
     sense
 }

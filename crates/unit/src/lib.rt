@@ -20,10 +20,10 @@ use unit_state::passed;
 ghost use mathlib.Core.Path.{_≡_};
 ghost use mathlib.Core.Bool.{not, _&&_};
 ghost use mathlib.Core.List.{[], _∷_};
-ghost use Prim.Native.Nat.{_<_};
 ghost use Rattle.numbers.specs.Choice.{_=?_, oneOf};
 ghost use Rattle.model.specs.Names.{NO-OPERATION, SENSE, SENSE-TYPE};
 ghost use Rattle.model.specs.Commands.{step};
+ghost use Rattle.model.specs.Safe.{CcwFits};
 ghost use Rattle.unit_state.specs.Standing.{stateOf, Sound, Handed};
 ghost use Rattle.endings.specs.Ending.{Ends};
 ghost use Rattle.unit.specs.Admission.{Received};
@@ -61,7 +61,7 @@ fn perform(d: Device, u: Record, c: Ccw, s: Running, main: &mut [u8], store: &mu
 }
 
 pub fn step(d: Device, u: Record, c: Ccw, s: Running, main: &mut [u8], store: &mut [u8]) -> Ended
-    requires { ⌜ Sound d s (now store) × (c .count < 65536) × (c .address < 16777216) ⌝ }
+    requires { ⌜ Sound d s (now store) × CcwFits c ⌝ }
     ensures { λ r. ⌜ Ends u c s r (now (main .exit)) (now (store .exit)) (step d c (stateOf u s) (now (main .entry)) (now (store .entry))) ⌝ }
 {
     let cause = channel_cause(c, main);

@@ -7,7 +7,7 @@
 --     Sound                       a device that a chain may run on, and a state that is safe on it, whatever record the chain found
 --     Handed                      the CCW of a command that the channel passed on: its data area is in main storage
 -- The run, the unit and the commands ask each other for `Sound` and `Handed`. Assumes nothing.
-use Prim.Native.Nat.{ℕ, _+_, _≤_, _<_}
+use Prim.Native.Nat.{ℕ, _+_, _≤_}
 use mathlib.Core.Bool.{Bool, true, false}
 use mathlib.Core.List.{List}
 use lib.ListN.{length}
@@ -26,7 +26,7 @@ use Rattle.model.specs.Lent.{blockCount}
 use Rattle.model.specs.Causes.{kindOf}
 use Rattle.model.specs.Log.{withSense}
 use Rattle.model.specs.Commands.{leaves}
-use Rattle.model.specs.Safe.{Safe}
+use Rattle.model.specs.Safe.{Usable, CcwFits, Safe}
 use Rattle.log.specs.Counts.{counted}
 use Rattle.unit_state.specs.declared.Running.{Running}
 use Rattle.unit_state.specs.declared.Left.{Left}
@@ -66,12 +66,11 @@ abbrev pub stateLeft : Record → Left → State
 stateLeft u l = leaves (kindOf (l .cause)) (stateOf u (l .state)) (l .cause) (l .parameters)
 
 pub record Sound (dev : Device) (s : Running) (store : List ℕ) : Type 0 where
-  pub some-size : 1 ≤ dev .block
-  pub small-size : dev .block ≤ 65535
+  pub device : Usable dev
   pub some-block : 1 ≤ blockCount dev store
   pub few-blocks : blockCount dev store ≤ 131072
   pub safe : (u : Record) → Safe (stateOf u s) (blockCount dev store)
 
 pub record Handed (c : Ccw) (main : List ℕ) : Type 0 where
-  pub count : c .count < 65536
+  pub ccw : CcwFits c
   pub area : c .address + c .count ≤ length main

@@ -9,5 +9,6 @@ use Rattle.blocks.proofs.place.Tie as tie
 pub place-spec : {M : Type 1} → statement M
 unfolding blockStart
 place-spec = tie.close (tie.spec
-    (search needs)  -- mul-result
-    (λ c. (refl, omega arith)))  -- returns
+    (search needs)  -- mul-start
+    (search needs)  -- add-t
+    (λ c. (refl, refl, omega arith)))  -- returns

@@ -7,12 +7,13 @@ use Rattle.blocks.proofs.read_block.Tie as tie
 
 returns : tie.Need-returns
 unfolding blockAt
-returns c = rw (part-lent, c .before .before .before .before .before .before .place .ensures .0) at (c .before .before .deliver .ensures)
+returns c =
+    let span = c .before .before .before .before .before .place .ensures in
+    rw (span .1, part-lent, span .0) at (c .before .before .deliver .ensures)
 
 pub read-block-spec : {M : Type 1} → statement M
 read-block-spec = tie.close (tie.spec
     (search needs)  -- place-requires
-    (search needs)  -- add-end
     (search needs)  -- sub-deliver
     (search needs)  -- part-deliver-start
     (search needs)  -- part-deliver-end

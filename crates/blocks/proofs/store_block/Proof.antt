@@ -7,13 +7,12 @@ use Rattle.blocks.proofs.store_block.Tie as tie
 
 returns : tie.Need-returns
 returns c =
-    let placed = c .before .before .before .before .before .place .ensures in
-    rw (← (placed .0)) (put-lent-filled _ _ _ _ _ (c .before .before .fill .ensures) (omega arith))
+    let span = c .before .before .before .before .place .ensures in
+    rw (span .1, ← (span .0)) (put-lent-filled _ _ _ _ _ (rw (span .1) at (c .before .before .fill .ensures)) (omega arith))
 
 pub store-block-spec : {M : Type 1} → statement M
 store-block-spec = tie.close (tie.spec
     (search needs)  -- place-requires
-    (search needs)  -- add-end
     (search needs)  -- sub-fill
     (search needs)  -- part-fill-start
     (search needs)  -- part-fill-end

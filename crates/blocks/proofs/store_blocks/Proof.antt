@@ -6,7 +6,8 @@ use native.Mathlib.Nat.{zero-mul, zero-min}
 use native.Mathlib.Omega.{arith}
 use borrow.Author.Needs.{needs}
 use Rattle.model.specs.Lent.{fetched, blocksInto}
-use Rattle.blocks.proofs.Turns.{turn-room, Turn, next-turn, store-turn}
+use Rattle.blocks.specs.Places.{InStore}
+use Rattle.blocks.proofs.Turns.{one-of, Share, next-share, store-turn}
 use Rattle.blocks.proofs.store_blocks.Statement.{statement}
 use Rattle.blocks.proofs.store_blocks.Tie as tie
 
@@ -19,11 +20,11 @@ abbrev μ-loop : tie.MeasureT-loop
 
 -- block i lies in the store
 room : (c : tie.In-loop Inv-loop μ-loop) → let a = c .before .before .before .before .args in let b : ℕ = a .block + c .before .loop .i in
-    ((b + 1) * a .d .block ≤ length (a .store .now)) × (b < length (a .store .now))
+    InStore (a .d) (c .before .loop .store) b 1 × (b < length (c .before .loop .store))
 room c =
     let first = c .before .before .before .before in
     let a = first .args in
-    turn-room (a .d .block) (a .block) (a .blocks) _ _ (first .pre .0) (c .loop-test .taken) (first .pre .2)
+    one-of (first .pre .stored) (c .loop-test .taken) (c .before .loop .inv .2)
 
 store-block-requires : tie.Need-store-block-requires Inv-loop μ-loop
 store-block-requires c κs =
@@ -31,12 +32,12 @@ store-block-requires c κs =
     let first = turn .before .before .before .before in
     let k = c .before .least .ensures in
     let l = turn .before .loop .inv in
-    (rw (l .2) (room turn .0), omega (arith, k), first .pre .1, omega (arith, k, l .1, first .pre .4))
+    record { stored = room turn .0; bytes = omega (arith, k); area = record { inside = omega (arith, k, l .1, first .pre .area .inside) } }
 
 add-from : tie.Need-add-from Inv-loop μ-loop
 add-from c =
     let first = c .before .before .before .before .before .before .before .before .before in
-    omega (arith, c .before .before .before .before .least .ensures, first .pre .1)
+    omega (arith, c .before .before .before .before .least .ensures, first .pre .stored .device .small-size)
 
 loop-again : tie.Need-loop-again Inv-loop μ-loop
 loop-again c =
@@ -44,9 +45,9 @@ loop-again c =
     let first = turn .before .before .before .before in
     let a = first .args in
     let l = turn .before .loop in
-    let t : Turn (a .d .block) (a .n) (l .i) (l .from) _ = record { after = l .inv .1; bytes = c .before .before .before .before .least .ensures } in (
+    let t : Share (a .d .block) (a .n) (l .i) (l .from) _ = record { after = l .inv .1; bytes = c .before .before .before .before .least .ensures } in (
       omega (arith, turn .loop-test .taken),
-      next-turn _ _ _ _ _ t,
+      next-share _ _ _ _ _ t,
       omega (arith, l .inv .2),
       c .before .before .store-block .ensures ∙ store-turn (a .d) (a .c) (a .main .now) (a .store .now) (a .block) (a .n) (l .i) (l .from) _ _ t (l .inv .3),
     )

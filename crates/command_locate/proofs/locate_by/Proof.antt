@@ -29,7 +29,7 @@ located-in-requires c κs =
 accept-requires : tie.Need-accept-requires
 accept-requires c κs =
     let first = c .before .before .before .before .before .before .before .before in
-    (first .pre .0 .count, first .pre .1, omega arith)
+    (first .pre .0 .ccw, first .pre .1, omega arith)
 
 returns-2 : tie.Need-returns-2
 unfolding locatedBy

@@ -6,7 +6,7 @@ use borrow.Author.Tests.{eq-eqb, ne-eqb}
 use Rattle.numbers.proofs.Choice.{pick-true, pick-false}
 use Rattle.slices.specs.Parts.{zeros}
 use Rattle.storage.proofs.Laws.{fetched-array}
-use Rattle.endings.specs.Ending.{shown}
+use Rattle.model.specs.Sense.{shown}
 use Rattle.command_locate.proofs.shown_by.Statement.{statement}
 use Rattle.command_locate.proofs.shown_by.Tie as tie
 

@@ -1,7 +1,7 @@
 -- `read` meets its contract. Both refusals are lines of its table; past them a sound state places the blocks, which are moved. Assumes nothing.
 use borrow.Author.Needs.{needs}
 use Rattle.model.specs.Parameters.{reads}
-use Rattle.command_transfer.proofs.Transfers.{reading, Passed, no-locate, other-locate, passed, read-asks, done-asks, read-ends}
+use Rattle.command_transfer.proofs.Transfers.{reading, Passed, no-locate, other-locate, passed, move-asks, done-asks, read-ends}
 use Rattle.command_transfer.proofs.read.Statement.{statement}
 use Rattle.command_transfer.proofs.read.Tie as tie
 
@@ -31,7 +31,7 @@ read-spec = tie.close (tie.spec
     (search needs)  -- refuse-requires-2
     returns-2
     (λ c κs. let p = through (c) in (p .transfer .sound, p .located))  -- located-move-requires
-    (λ c κs. read-asks (through (c .before .before)) (c .before .located-move .ensures))  -- read-blocks-requires
+    (λ c κs. move-asks (through (c .before .before)) (c .before .located-move .ensures))  -- read-blocks-requires
     (λ c κs. let m = c .before .before .before .before in done-asks (through (m .before)) (m .located-move .ensures))  -- read-done-requires
     (search needs)  -- same-length
     returns-3)

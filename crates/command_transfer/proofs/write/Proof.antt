@@ -22,7 +22,7 @@ write-done-requires c κs =
     let m = c .before .before .before .before in
     let p = through (m .before .before) in
     let k = done-asks p (m .located-move .ensures) in
-    (k .0, k .1, k .2, k .3, omega (arith, placed _ _ _ (p .transfer .sound) (p .located) .few))
+    (k .0, k .1, k .2, omega (arith, placed _ _ _ (p .transfer .sound) (p .located) .few))
 
 returns-3 : tie.Need-returns-3
 returns-3 c u =
@@ -39,7 +39,7 @@ write-spec = tie.close (tie.spec
     (search needs)  -- refuse-requires-2
     returns-2
     (λ c κs. let p = through (c .before) in (p .transfer .sound, p .located))  -- located-move-requires
-    (λ c κs. move-asks (through (c .before .before .before)) (c .before .located-move .ensures))  -- store-blocks-requires
+    (λ c κs. move-asks (through (c .before .before .before)) (c .before .located-move .ensures) .0)  -- store-blocks-requires
     write-done-requires
     (search needs)  -- same-length
     returns-3)

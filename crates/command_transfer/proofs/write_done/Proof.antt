@@ -8,7 +8,7 @@ use Rattle.command_transfer.proofs.write_done.Tie as tie
 accept-requires : tie.Need-accept-requires
 accept-requires c κs =
     let first = c .before .before .before .before in
-    (first .pre .2, first .pre .3, omega (arith, c .begun .ensures, begun-least (first .args .d) (first .args .m .n) (first .pre .0), first .pre .2, first .pre .3))
+    (first .pre .1, first .pre .2, omega (arith, c .begun .ensures, begun-least (first .args .d) (first .args .m .n) (first .pre .0 .some-size), first .pre .1 .count, first .pre .2))
 
 returns : tie.Need-returns
 returns c = rw (c .before .before .after .ensures, c .before .before .before .written .ensures, c .before .begun .ensures) at (c .accept .ensures)

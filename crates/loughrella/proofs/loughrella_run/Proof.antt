@@ -26,7 +26,7 @@ cast-result-2 : tie.Need-cast-result-2
 cast-result-2 c =
     let args = c .before .before .before .before .before .before .before .before .before .before .before .before .before .before .before .before .before .before .before .before .before .before .before .before .before .before .before .before .before .args in
     let no-cause = sym (c .before .before .before .before .before .before .before .before .before .before .before .before .before .before .before .before .before .before .before .before .cause-of .ensures) ∙ c .before .before .before .before .before .before .before .before .before .before .before .before .before .before .before .before .before .before .before .if1 .left in
-    omega (arith, few-hosted (args .chain .now) (args .storage .now) (args .store .now) (args .unit .now) (args .answers .now) _ _ no-cause (c .before .before .before .before .before .before .before .before .before .before .before .before .run-allowed .ensures .0))
+    omega (arith, few-hosted (args .chain .now) (args .storage .now) (args .store .now) (args .unit .now) (args .answers .now) _ _ no-cause (c .before .before .before .before .before .before .before .before .before .before .before .before .run-allowed .ensures .after))
 
 returns-3 : tie.Need-returns-3
 returns-3 c =
@@ -35,7 +35,7 @@ returns-3 c =
     let run-allowed = c .before .before .before .before .before .before .before .before .before .before .before .before .run-allowed in
     let pack-left = c .before .before .before .pack-left in
     let kept = c .before .before .before .before .before .before .before .before .before .before .before .before .before .before .before .before .before .before .if2 .left in
-    ran-hosted (args .chain .now) (args .storage .now) (args .store .now) (args .unit .now) (args .answers .now) _ _ _ _ _ _ _ kept (unpack .ensures) (run-allowed .ensures .0) (pack-left .ensures ∙ ap (λ (u : Record). recordBytes (stateLeft u (run-allowed .result .left) .unit)) (sym (unpack .ensures)))
+    ran-hosted (args .chain .now) (args .storage .now) (args .store .now) (args .unit .now) (args .answers .now) _ _ _ _ _ _ _ kept (unpack .ensures) (run-allowed .ensures .after) (pack-left .ensures ∙ ap (λ (u : Record). recordBytes (stateLeft u (run-allowed .result .left) .unit)) (sym (unpack .ensures)))
 
 pub loughrella-run-spec : {M : Type 1} → statement M
 loughrella-run-spec =

@@ -1,10 +1,9 @@
--- `sense_of` meets its contract: the row's bytes over zeros, and for 39 the parameters over those.
+-- `sense_of` meets its contract: the row's bytes over zeros, and the parameters over those.
 -- Assumes nothing.
 use borrow.Author.Needs.{needs}
-use borrow.Author.Tests.{eq-eqb, ne-eqb}
 use mathlib.Core.Path.{_≡_, _∙_}
 use lib.ListN.{length}
-use Rattle.sense_table.proofs.Stores.{sense-plain, sense-shown}
+use Rattle.sense_table.proofs.Stores.{sense-stored}
 use Rattle.sense_table.proofs.sense_of.Statement.{statement}
 use Rattle.sense_table.proofs.sense_of.Tie as tie
 
@@ -13,15 +12,9 @@ long c = search needs
 
 returns : tie.Need-returns
 returns c =
-    let i = c .before .before .before .before in
-    let headed = i .before .before in
+    let headed = c .before .before .before .before .before in
     let row = headed .before .before .before in
-    rw (headed .put-at .ensures) at (c .before .put-at2 .ensures) ∙ sense-shown _ _ _ (row .row-of .ensures) (eq-eqb _ _ (i .if1 .taken)) (long (row .before))
-
-returns-2 : tie.Need-returns-2
-returns-2 c =
-    let headed = c .before .before in
-    headed .put-at .ensures ∙ sense-plain _ _ _ (headed .before .before .before .row-of .ensures) (ne-eqb _ _ (c .if1 .left))
+    rw (headed .put-at .ensures) at (c .before .put-at2 .ensures) ∙ sense-stored _ _ _ (row .row-of .ensures) (long (row .before))
 
 pub sense-of-spec : {M : Type 1} → statement M
 sense-of-spec = tie.close (tie.spec
@@ -35,5 +28,4 @@ sense-of-spec = tie.close (tie.spec
     (search needs)  -- slice-aggregate-put-at-3
     (search needs)  -- slice-aggregate-put-at-4
     (search needs)  -- put-at-requires-2
-    returns
-    returns-2)
+    returns)

@@ -41,7 +41,7 @@ perform-requires c κs =
     let a = first .args in
     let other = tested .if3 .left in (
       first .pre .0,
-      record { count = first .pre .1; area = channel-room (a .d) (a .c) (stateOf (a .u) (a .s)) (a .main .now) (a .store .now) (seen at .channel) other },
+      record { ccw = first .pre .1; area = channel-room (a .d) (a .c) (stateOf (a .u) (a .s)) (a .main .now) (a .store .now) (seen at .channel) other },
       seen at,
       other,
     )

@@ -15,7 +15,7 @@ run-allowed-requires : tie.Need-run-allowed-requires
 run-allowed-requires c κs = let tested = c .before .before .before in sym (tested .before .cause-of .ensures) ∙ tested .if1 .left
 
 returns-2 : tie.Need-returns-2
-returns-2 c = rw (c .record-left .ensures) (c .before .before .before .before .before .before .before .before .run-allowed .ensures .0)
+returns-2 c = rw (c .record-left .ensures) (c .before .before .before .before .before .before .before .before .run-allowed .ensures .after)
 
 pub call-spec : {M : Type 1} → statement M
 call-spec =

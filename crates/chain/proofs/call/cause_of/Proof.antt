@@ -1,11 +1,11 @@
 -- `call::cause_of` meets its contract. Assumes nothing.
-use native.Mathlib.Omega.{arith}
 use borrow.Author.Needs.{needs}
+use Rattle.chain.proofs.Runs.{class-a-usable}
 use Rattle.chain.proofs.call.cause_of.Statement.{statement}
 use Rattle.chain.proofs.call.cause_of.Tie as tie
 
 call-cause-requires : tie.Need-call-cause-requires
-call-cause-requires c κs = rw (c .class-a .ensures) (omega arith)
+call-cause-requires c κs = rw (c .class-a .ensures) class-a-usable
 
 returns : tie.Need-returns
 returns c = rw (c .before .class-a .ensures) at (c .call-cause .ensures)

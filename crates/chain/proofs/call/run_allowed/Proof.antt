@@ -21,7 +21,7 @@ returns c =
     let start = run .before .before .before .before in
     let first = start .before .before .before .before .before .before in
     let a = first .args in
-    allowed (a .chain .now) (a .main .now) (a .store .now) (a .answers .now) (a .u) _ _ _ _ (start .before .class-a .ensures) (start .start .ensures) (first .pre) (run .run-chain .ensures)
+    allowed (a .chain .now) (a .main .now) (a .store .now) (a .answers .now) _ _ _ (a .u) _ _ _ (start .before .class-a .ensures) (start .start .ensures) (first .pre) (run .run-chain .ensures)
 
 pub run-allowed-spec : {M : Type 1} → statement M
 run-allowed-spec =

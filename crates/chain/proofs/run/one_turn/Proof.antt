@@ -8,7 +8,7 @@ step-requires : tie.Need-step-requires
 step-requires c κs =
     let ccw = c .before .before in
     let e = ccw .ccw-at .ensures in
-    (ccw .before .before .before .before .before .pre .3, e .1, e .2)
+    (ccw .before .before .before .before .before .pre .3, e .1)
 
 returns : tie.Need-returns
 returns c =
@@ -19,7 +19,7 @@ returns c =
     let a = first .args in
     let e = ccw .ccw-at .ensures in
     turned (a .d) (a .chain .now) (a .i) _ (a .u) (a .s) (a .main .now) (a .store .now) (a .answers .now) _ _ (step .step .result)
-    (e .0) (step .step .ensures) _ _ (put .put-answer .ensures) (e .1) (first .pre .3 .some-size) (c .goes-on .ensures)
+    (e .0) (step .step .ensures) _ _ (put .put-answer .ensures) (e .1) (first .pre .3 .device) (c .goes-on .ensures)
 
 pub one-turn-spec : {M : Type 1} → statement M
 one-turn-spec =

@@ -5,7 +5,7 @@ use native.Mathlib.Omega.{arith}
 use borrow.Author.Tests.{not-true, not-false}
 use Rattle.slices.specs.Parts.{zeros}
 use Rattle.unit_state.specs.Standing.{Sound}
-use Rattle.chain.proofs.Runs.{Underway, underway-start, underway-next, underway-stop, underway-done, sound-same}
+use Rattle.chain.proofs.Runs.{given-walks, Underway, underway-start, underway-next, underway-stop, underway-done, sound-same}
 use Rattle.chain.proofs.run.run_chain.Statement.{statement}
 use Rattle.chain.proofs.run.run_chain.Tie as tie
 
@@ -56,8 +56,9 @@ returns c =
     let a = turn .before .before .before .before .before .before .args in
     let l = turn .before .loop in
     let p = done .one-turn .ensures in
-    underway-stop (a .d) (a .chain .now) (a .u) (a .main .now) (a .store .now) (a .answers .now) _ (a .s) (l .main) (l .store) (l .answers) (l .state) (l .i) (l .inv) _ _ (turn .loop-test .taken)
-    (p .0) (sym (p .1 .0) ∙ not-true _ (c .if1 .taken)) (p .1 .1)
+    given-walks (a .d) (a .chain .now) (a .u) (a .main .now) (a .store .now) (a .answers .now) _ (a .s) (l .inv .count)
+    (underway-stop (a .d) (a .chain .now) (a .u) (a .main .now) (a .store .now) (a .answers .now) _ (a .s) (l .main) (l .store) (l .answers) (l .state) (l .i) (l .inv) _ _ (turn .loop-test .taken)
+    (p .after) (sym (p .go) ∙ not-true _ (c .if1 .taken)) (p .left))
 
 loop-less : tie.Need-loop-less Inv-loop μ-loop
 loop-less c = omega arith
@@ -71,7 +72,7 @@ loop-again c =
     let l = turn .before .loop in
     let p = done .one-turn .ensures in
     underway-next (a .d) (a .chain .now) (a .u) (a .main .now) (a .store .now) (a .answers .now) _ (a .s) (l .main) (l .store) (l .answers) (l .state) (l .i) (l .inv) _ _ _ _ (turn .loop-test .taken)
-    (sound turn .some-block) (omega (arith, l .inv .count, first .pre .0)) (p .0) (sym (p .1 .0) ∙ not-false _ (c .if1 .left)) (p .1 .1)
+    (sound turn .some-block) (omega (arith, l .inv .count, first .pre .0)) (p .after) (sym (p .go) ∙ not-false _ (c .if1 .left)) (p .left)
 
 same-length-4 : tie.Need-same-length-4 Inv-loop μ-loop
 same-length-4 c = omega arith
@@ -87,7 +88,8 @@ unfolding zeros
 returns-2 c =
     let a = c .before .before .before .before .before .before .args in
     let l = c .before .loop in
-    underway-done (a .d) (a .chain .now) (a .u) (a .main .now) (a .store .now) (a .answers .now) _ (a .s) (l .main) (l .store) (l .answers) (l .state) (l .i) (l .inv) (c .loop-test .left)
+    given-walks (a .d) (a .chain .now) (a .u) (a .main .now) (a .store .now) (a .answers .now) _ (a .s) (l .inv .count)
+    (underway-done (a .d) (a .chain .now) (a .u) (a .main .now) (a .store .now) (a .answers .now) _ (a .s) (l .main) (l .store) (l .answers) (l .state) (l .i) (l .inv) (c .loop-test .left))
 
 pub run-chain-spec : {M : Type 1} → statement M
 run-chain-spec =

@@ -8,7 +8,7 @@ returns : tie.Need-returns
 unfolding ccwAt
 returns c =
     let be3 = c .before .before .be3 in
-    (rw (be3 .ensures .0, c .be2 .ensures .0), c .be2 .ensures .1, be3 .ensures .1)
+    (rw (be3 .ensures .0, c .be2 .ensures .0), record { count = c .be2 .ensures .1; address = be3 .ensures .1 })
 
 pub ccw-at-spec : {M : Type 1} → statement M
 ccw-at-spec =
