@@ -19,7 +19,7 @@ fn chain_wrong(len: usize) -> bool
     if len == 0 {
         return true;
     }
-    if sizes::MOST_CHAIN < len {
+    if sizes::CHAIN_LIMIT < len {
         return true;
     }
     len % sizes::CCW != 0
@@ -36,7 +36,7 @@ fn store_wrong(size: usize, len: usize) -> bool
     if len % size != 0 {
         return true;
     }
-    sizes::MOST_BLOCKS < len / size
+    sizes::BLOCKS_LIMIT < len / size
 }
 
 // Each CCW has flag 40, so no CCW is the chain's last.
@@ -66,7 +66,7 @@ pub fn call_cause(d: Device, chain: &[u8], main: &[u8], store: &[u8], answers: &
     if store_wrong(d.block, store.len()) {
         return 2;
     }
-    if sizes::MOST_STORAGE < main.len() {
+    if sizes::STORAGE_LIMIT < main.len() {
         return 3;
     }
     if answers.len() < chain.len() {

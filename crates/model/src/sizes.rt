@@ -17,8 +17,8 @@ pub const SENSE: usize = 24;
 pub const BLOCK: usize = 512;
 
 // The most that may be lent: bytes of a chain, bytes of main storage, blocks of a store.
-pub const MOST_CHAIN: usize = 256;
+pub const CHAIN_LIMIT: usize = 256;
 
-pub const MOST_STORAGE: usize = 16777216;
+pub const STORAGE_LIMIT: usize = 16777216;
 
-pub const MOST_BLOCKS: usize = 131072;
+pub const BLOCKS_LIMIT: usize = 131072;

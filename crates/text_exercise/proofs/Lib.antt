@@ -1,4 +1,4 @@
-pub mod Devices
+pub mod NewStore
 pub mod Runs
 pub mod Cuts
 pub mod Sizes

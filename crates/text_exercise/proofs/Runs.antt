@@ -16,7 +16,7 @@ use Rattle.slices.specs.Parts.{put, zeros}
 use Rattle.model.specs.Lent.{newRecord}
 use Rattle.text_input.specs.declared.Settings.{Settings}
 use Rattle.text_input.specs.Reads.{ReadTo}
-use Rattle.text_exercise.specs.Exercise.{device, exercised}
+use Rattle.text_exercise.specs.Exercise.{newStore, exercised}
 use Rattle.in_place.specs.declared.Ran.{Ran}
 use Rattle.in_place.specs.Run.{Outcome, outcome, ByValue}
 use Rattle.in_place.proofs.Reached.{reached-few}
@@ -45,7 +45,7 @@ module _ {u : Record} {chain main store answers : List ℕ} {w : Ran} {main′ s
   answered e = rw (reached-is, e) (omega (arith, call-reached classA chain main store u answers .1))
 
 -- a call on a device as the settings have it is what the exercise asks for
-pub exercised-is : (s : Settings) (chain main store : List ℕ) (u : Record) → store ≡ device (s .blocks) → u ≡ newRecord (s .ready) (s .readonly)
+pub exercised-is : (s : Settings) (chain main store : List ℕ) (u : Record) → store ≡ newStore (s .blocks) → u ≡ newRecord (s .ready) (s .readonly)
     → printout (exercised (record { settings = s; storage = main; chain = chain })) ≡ printout (call chain main store u (zeros (length chain)))
 unfolding exercised
 exercised-is s chain main store u f g = rw (f, g)

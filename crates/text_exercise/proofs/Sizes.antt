@@ -26,16 +26,16 @@ use Rattle.text_output.proofs.Sizes.{mostPrinted, printout-within, refused-with
 use Rattle.text_input.specs.Input.{lines, wrongLine, Exercise, exerciseIn}
 use Rattle.text_input.proofs.Sizes.{wrong-few, settings-few, storage-bytes, storage-few, chain-bytes}
 use Rattle.text_input.proofs.Rights.{few-blocks}
-use Rattle.text_exercise.specs.Exercise.{device, exercised, exercise}
+use Rattle.text_exercise.specs.Exercise.{newStore, exercised, exercise}
 
 block-bytes : (n b : ℕ) → b < 256 → AreBytes (replicate n b)
 block-bytes zero b h = bytes-nil
 block-bytes (suc n) b h = bytes-cons b _ h (block-bytes n b h)
 
-device-bytes : (n : ℕ) → n ≤ 256 → AreBytes (device n)
-unfolding device
-device-bytes zero h = bytes-nil
-device-bytes (suc n) h = bytes-append (device n) _ (device-bytes n (omega arith)) (block-bytes (classA .block) n (omega arith))
+new-store-bytes : (n : ℕ) → n ≤ 256 → AreBytes (newStore n)
+unfolding newStore
+new-store-bytes zero h = bytes-nil
+new-store-bytes (suc n) h = bytes-append (newStore n) _ (new-store-bytes n (omega arith)) (block-bytes (classA .block) n (omega arith))
 
 new-fields : (ready readonly : ℕ) → ready < 256 → readonly < 256 → IsRecord (newRecord ready readonly)
 unfolding newRecord
@@ -59,10 +59,10 @@ unfolding exercised
 exercised-length input e =
     let x : Exercise = exerciseIn (lines input) in
     let u : Record = newRecord (x .settings .ready) (x .settings .readonly) in
-    let store : List ℕ = device (x .settings .blocks) in
+    let store : List ℕ = newStore (x .settings .blocks) in
     let answers : List ℕ = zeros (length (x .chain)) in
     let fields = new-fields (x .settings .ready) (x .settings .readonly) (settings-few input .0) (settings-few input .1) in
-    let bytes = call-bytes classA (x .chain) (x .storage) store u answers (chain-bytes input) (storage-bytes input) (device-bytes (x .settings .blocks) (omega (arith, few-blocks input e))) fields (bytes-zeros _) in
+    let bytes = call-bytes classA (x .chain) (x .storage) store u answers (chain-bytes input) (storage-bytes input) (new-store-bytes (x .settings .blocks) (omega (arith, few-blocks input e))) fields (bytes-zeros _) in
     let sizes = call-lengths classA (x .chain) (x .storage) store u answers in
     printout-within _ _ _ _ _ (small-cause (x .chain) (x .storage) store u answers) (reached-few (x .chain) (x .storage) store u answers _ refl) (bytes .answers-bytes) (omega (arith, sizes .main-length, storage-few input e)) (bytes .unit-fields .sense .long)
 

@@ -10,7 +10,7 @@ use Rattle.model.proofs.Opened.{opened}
 use Rattle.text_digits.specs.Digits.{ascii, digit, decimalOf, decimal, hex, valueOf, isDigit, allDigits, isHex, bytesIn, same}
 use Rattle.text_output.specs.Printout.{line, statusLines, countLines, commandLines, printoutOf}
 use Rattle.text_input.specs.Input.{lines, keyed, value, numberIn, numberOf, bytesOf, hexLine, rightLine, wrongFrom, wrongLine, chainIn, exerciseIn}
-use Rattle.text_exercise.specs.Exercise.{device, exercised, exercise}
+use Rattle.text_exercise.specs.Exercise.{newStore, exercised, exercise}
 
 pub record Example : Type 0 where
   pub input : String
@@ -54,7 +54,7 @@ examples =
     ∷ []
 
 pub worked : map (λ (e : Example). exercise (ascii (e .input))) examples ≡ map (λ (e : Example). ascii (e .printed)) examples
-unfolding opened digit decimalOf decimal hex valueOf isDigit allDigits isHex bytesIn same line statusLines countLines commandLines printoutOf lines keyed value numberIn numberOf bytesOf hexLine rightLine wrongFrom wrongLine chainIn exerciseIn device exercised exercise
+unfolding opened digit decimalOf decimal hex valueOf isDigit allDigits isHex bytesIn same line statusLines countLines commandLines printoutOf lines keyed value numberIn numberOf bytesOf hexLine rightLine wrongFrom wrongLine chainIn exerciseIn newStore exercised exercise
 worked = refl
 
 -- 32 ccws are taken, and a 33rd is refused at its line

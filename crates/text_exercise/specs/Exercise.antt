@@ -1,6 +1,6 @@
 -- The program `exercise` as a function of its input (01, Each side of the lines).
---     device      "Block i starts filled with byte i"
---     mostStore   the bytes of the largest device
+--     newStore    "Block i starts filled with byte i"
+--     mostStore   the bytes of the largest store
 --     exercised   the call that an exercise asks for, on a new unit; its answers start as zeros
 --     exercise    what is printed, for every input
 -- Assumes nothing.
@@ -14,9 +14,9 @@ use Rattle.model.specs.Chain.{Called, call, classA}
 use Rattle.text_input.specs.Input.{mostBlocks, lines, wrongLine, Exercise, exerciseIn}
 use Rattle.text_output.specs.Printout.{refusedLine, printout}
 
-unfoldable pub device : ℕ → List ℕ
-device zero = []
-device (suc n) = device n ++ replicate (classA .block) n
+unfoldable pub newStore : ℕ → List ℕ
+newStore zero = []
+newStore (suc n) = newStore n ++ replicate (classA .block) n
 
 abbrev pub mostStore : ℕ
 mostStore = mostBlocks * classA .block
@@ -24,7 +24,7 @@ mostStore = mostBlocks * classA .block
 unfoldable pub exercised : Exercise → Called
 exercised e =
     let s = e .settings in
-    call (e .chain) (e .storage) (device (s .blocks)) (newRecord (s .ready) (s .readonly)) (zeros (length (e .chain)))
+    call (e .chain) (e .storage) (newStore (s .blocks)) (newRecord (s .ready) (s .readonly)) (zeros (length (e .chain)))
 
 unfoldable pub exercise : List ℕ → List ℕ
 exercise input =

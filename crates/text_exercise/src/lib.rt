@@ -19,7 +19,7 @@ ghost use Rattle.model.specs.Chain.{call, classA};
 ghost use Rattle.text_digits.specs.Output.{Adds};
 ghost use Rattle.text_output.specs.Printout.{printout};
 ghost use Rattle.text_input.specs.Input.{mostBlocks, mostStorage, mostChain, lines, wrongLine, exerciseIn};
-ghost use Rattle.text_exercise.specs.Exercise.{device, mostStore, exercised, exercise};
+ghost use Rattle.text_exercise.specs.Exercise.{newStore, mostStore, exercised, exercise};
 
 // The bytes of the largest store.
 const MOST_STORE: usize = MOST_BLOCKS * sizes::BLOCK;
@@ -30,7 +30,7 @@ const PER_CAUSE: usize = 256;
 // Block i of the store is filled with byte i.
 fn number_blocks(store: &mut [u8], blocks: usize)
     requires { ⌜ (length (now store) ≡ blocks * classA .block) × (blocks ≤ mostBlocks) ⌝ }
-    ensures { λ _. ⌜ now (store .exit) ≡ device blocks ⌝ }
+    ensures { λ _. ⌜ now (store .exit) ≡ newStore blocks ⌝ }
 {
     for i in 0..store.len() {
         store[i] = (i / sizes::BLOCK) as u8;

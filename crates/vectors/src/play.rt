@@ -26,6 +26,13 @@ const STORAGE_BYTE: u8 = 0xFF;
 
 const ANSWER_BYTE: u8 = 0xAA;
 
+// The longest that each buffer is: a chain, and its answers, of one CCW more than a chain may have; a store of eight blocks.
+const CHAIN: usize = sizes::CHAIN_LIMIT + sizes::CCW;
+
+const STORAGE: usize = 1088;
+
+const STORE: usize = 8 * sizes::BLOCK;
+
 // A vector's number in print.
 pub struct Id {
     pub group: u64,
@@ -48,10 +55,10 @@ fn least(a: usize, b: usize) -> usize
 fn store_bytes(setting: u64) -> usize {
     let which = setting / 16 % 4;
     match which {
-        0 => 4096,
+        0 => STORE,
         1 => sizes::BLOCK,
         2 => 0,
-        _ => 513,
+        _ => sizes::BLOCK + 1,
     }
 }
 
@@ -114,7 +121,7 @@ fn lay(
 ) {
     renew(v.setting, storage, store);
     words::put(storage, table, v.storage_at, v.storage_words);
-    words::put(chain, table, v.chain_at, 33);
+    words::put(chain, table, v.chain_at, CHAIN / sizes::CCW);
     words::fill(answers, ANSWER_BYTE);
 }
 
@@ -248,10 +255,10 @@ fn heading(n: u64, title: &[u8]) {
 
 // A group of vectors: its heading, and its lines.
 pub fn group(n: u64, title: &[u8], table: &[u64]) {
-    let mut chain = [0; 264];
-    let mut storage = [0; 1088];
-    let mut store = [0; 4096];
-    let mut answers = [0; 264];
+    let mut chain = [0; CHAIN];
+    let mut storage = [0; STORAGE];
+    let mut store = [0; STORE];
+    let mut answers = [0; CHAIN];
     heading(n, title);
     turns(n, table, &mut chain, &mut storage, &mut store, &mut answers);
 }

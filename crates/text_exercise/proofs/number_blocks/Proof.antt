@@ -6,14 +6,14 @@ use mathlib.Core.Path.{_≡_, refl}
 use lib.ListN.{length, take}
 use Rattle.model.specs.Chain.{classA}
 use Rattle.text_input.specs.Input.{mostBlocks}
-use Rattle.text_exercise.specs.Exercise.{device}
-use Rattle.text_exercise.proofs.Devices.{device-more, device-whole}
+use Rattle.text_exercise.specs.Exercise.{newStore}
+use Rattle.text_exercise.proofs.NewStore.{new-store-more, new-store-whole}
 use borrow.Author.Needs.{needs}
 use Rattle.text_exercise.proofs.number_blocks.Statement.{statement}
 use Rattle.text_exercise.proofs.number_blocks.Tie as tie
 
 abbrev Inv-loop : tie.InvT-loop
-Inv-loop store₀ blocks i₀ i-end store i = (i ≤ i-end) × (i-end ≡ length store₀) × (length store ≡ length store₀) × (length store₀ ≡ blocks * classA .block) × (blocks ≤ mostBlocks) × (take i store ≡ take i (device blocks))
+Inv-loop store₀ blocks i₀ i-end store i = (i ≤ i-end) × (i-end ≡ length store₀) × (length store ≡ length store₀) × (length store₀ ≡ blocks * classA .block) × (blocks ≤ mostBlocks) × (take i store ≡ take i (newStore blocks))
 
 abbrev μ-loop : tie.MeasureT-loop
 μ-loop store₀ blocks i₀ i-end store i = i-end - i
@@ -21,12 +21,12 @@ abbrev μ-loop : tie.MeasureT-loop
 loop-again : tie.Need-loop-again Inv-loop μ-loop
 loop-again c =
     let l = c .before .loop in
-    (search needs, search needs, search needs, search needs, search needs, device-more (l .store) (c .before .before .args .blocks) (l .i) _ (l .inv .5) (search needs) (omega arith) refl)
+    (search needs, search needs, search needs, search needs, search needs, new-store-more (l .store) (c .before .before .args .blocks) (l .i) _ (l .inv .5) (search needs) (omega arith) refl)
 
 returns : tie.Need-returns Inv-loop μ-loop
 returns c =
     let l = c .before .loop in
-    device-whole (l .store) (c .before .before .args .blocks) (l .i) (l .inv .5) (omega arith) (omega arith)
+    new-store-whole (l .store) (c .before .before .args .blocks) (l .i) (l .inv .5) (omega arith) (omega arith)
 
 pub number-blocks-spec : {M : Type 1} → statement M
 number-blocks-spec = tie.close (tie.spec
