@@ -8,11 +8,12 @@
 -- Assumes nothing.
 use Prim.Native.Nat.{ℕ, zero, suc, _+_, _/_, _≤_, _<_}
 use mathlib.Core.Path.{_≡_, refl, sym, ap, _∙_}
-use mathlib.Core.Bool.{Bool, true, false, _&&_, false≢true}
+use mathlib.Core.Logic.{dite}
+use mathlib.Core.Bool.{true, _&&_, false≢true}
 use mathlib.Core.List.{List}
-use lib.ListN.{length, getD}
+use lib.ListN.{length}
+use native.Mathlib.Decide.{ℕ-discrete}
 use native.Mathlib.Omega.{arith}
-use borrow.Author.Tests.{eqb-true, eqb-false}
 use Rattle.slices.proofs.Laws.{by-place}
 use Rattle.model.specs.declared.ccw.Ccw.{Ccw}
 use Rattle.model.specs.declared.record.Record.{Record}
@@ -28,7 +29,7 @@ use Rattle.model.specs.Answer.{wrongLength, channelStatus, residual, ans
 use Rattle.model.specs.Chain.{System, system, stepAt, next, more, run, start, callOf}
 use Rattle.model.specs.Host.{hostCallOf}
 use Rattle.model.specs.Safe.{Safe}
-use Rattle.model.specs.Moved.{InChain, Among, extentAt, Moved, SameAfter, SameHosted}
+use Rattle.model.specs.Moved.{Own, InChain, extentAt, Moved, SameAfter, SameHosted}
 use Rattle.numbers.proofs.Choice.{pick-both}
 use Rattle.numbers.proofs.Joined.{both-true}
 use Rattle.model.proofs.Safety.{safe-start, step-safe}
@@ -110,24 +111,18 @@ module _ (dev : Device) (F : Place) (k : SoundPlace dev F) (chain : List ℕ) (f
 
 -- the start
 
--- what the two runs are about
-place : (c : Ccw) (main main′ store store′ : List ℕ) → Place
-place c main main′ store store′ = record { at = c .address; here = extentAt c main; there = extentAt c main′; store = store; store′ = store′ }
-
-module _ (dev : Device) (chain : List ℕ) (d : ℕ) (main main′ store store′ : List ℕ) (h : Moved dev chain d main main′ store store′) where
-  same-parameter : (i : ℕ) → i < extentLength → (Among 4 4 i → ⊥) → getD (fetched (ccwAt chain d) main extentLength) i 0 ≡ getD (fetched (ccwAt chain d) main′ extentLength) i 0
-  same-parameter = parameter-same (ccwAt chain d) main main′ (h .typed)
-
+module _ (dev : Device) (chain : List ℕ) (d : ℕ) (l l′ : Own) (h : Moved dev chain d l l′) where
+  -- what the two runs are about
   here : Place
-  here = place (ccwAt chain d) main main′ store store′
+  here = record { at = ccwAt chain d .address; here = extentAt chain d l; there = extentAt chain d l′; store = l .store; store′ = l′ .store }
 
   sound : SoundPlace dev here
-  unfolding here place extentIn
+  unfolding here extentIn
   sound =
-      let far : (i : ℕ) → 8 ≤ i → Among 4 4 i → ⊥ = λ i b k. omega (arith, k) in
-      let behind : (i : ℕ) → 8 ≤ i → i < extentLength → _ = λ i b l. same-parameter i l (far i b) in
+      let same = parameter-same (ccwAt chain d) (l .main) (l′ .main) (h .typed) in
+      let behind : (i : ℕ) → 8 ≤ i → i < extentLength → _ = λ i b m. same i m (λ k. omega (arith, k)) in
       record {
-        mask = same-parameter 0 (omega arith) (λ k. omega (arith, k));
+        mask = same 0 (omega arith) (λ k. omega (arith, k));
         first = rw (behind 8 (omega arith) (omega arith), behind 9 (omega arith) (omega arith), behind 10 (omega arith) (omega arith), behind 11 (omega arith) (omega arith));
         last = rw (behind 12 (omega arith) (omega arith), behind 13 (omega arith) (omega arith), behind 14 (omega arith) (omega arith), behind 15 (omega arith) (omega arith));
         sizes = h .sizes;
@@ -136,15 +131,15 @@ module _ (dev : Device) (chain : List ℕ) (d : ℕ) (main main′ store store�
       }
 
   fits : (i : ℕ) → InChain chain i → Fits here (ccwAt chain i)
-  unfolding here place
+  unfolding here
   fits i c = record {
     own = λ e. let f = h .one .only i c e in rw f;
     apart = λ n. h .alone i c (λ f. n (rw f (h .one .defines)));
     no-ipl = h .one .no-ipl i c;
   }
 
-  begin-alike : (u : Record) (answers : List ℕ) → Alike dev here (system (start u) main store answers 0) (system (start u) main′ store′ answers 0)
-  unfolding here place start fetched
+  begin-alike : (u : Record) (answers : List ℕ) → Alike dev here (system (start u) (l .main) (l .store) answers 0) (system (start u) (l′ .main) (l′ .store) answers 0)
+  unfolding here start fetched
   begin-alike u answers = record {
     states = record { unit = refl; defined = refl; before = refl; located = refl; mask = refl; first = refl; last = refl; set = λ e. absurd (false≢true e) };
     mains = record { but = h .typed; here = refl; there = refl };
@@ -154,46 +149,36 @@ module _ (dev : Device) (chain : List ℕ) (d : ℕ) (main main′ store store�
     safe = safe-start u _;
   }
 
-  causes-same : (answers : List ℕ) → callCauses dev chain main store answers ≡ callCauses dev chain main′ store′ answers
+  cause-same : (answers : List ℕ) → firstOf (callCauses dev chain (l .main) (l .store) answers) ≡ firstOf (callCauses dev chain (l′ .main) (l′ .store) answers)
   unfolding callCauses blockCount
-  causes-same answers = rw (h .typed .long, h .sizes)
+  cause-same answers = rw (h .typed .long, h .sizes)
 
   -- a data set can be moved
   pub moved-same : (u : Record) (answers : List ℕ)
-      → SameAfter dev chain d main main′ store store′ (callOf dev chain main store u answers) (callOf dev chain main′ store′ u answers)
-  unfolding callOf here place
+      → SameAfter dev chain d l l′ (callOf dev chain (l .main) (l .store) u answers) (callOf dev chain (l′ .main) (l′ .store) u answers)
+  unfolding callOf here
   moved-same u answers =
-      let w = ap firstOf (causes-same answers) in
       let a = begin-alike u answers in
-      let z = pick-both (Alike dev here) (firstOf (callCauses dev chain main store answers) =? 0) _ _ _ _
-      (λ _. run-alike dev here sound chain fits (length chain / ccwSize) 0 _ _ (omega arith) (λ j l. absurd (omega arith)) a) (λ _. a) in
-      rw (← w) (record {
+      let z = pick-both (Alike dev here) (firstOf (callCauses dev chain (l .main) (l .store) answers) =? 0) _ _ _ _
+      (λ _. run-alike dev here sound chain fits (length chain / ccwSize) 0 _ _ (omega arith) (λ j b. absurd (omega arith)) a) (λ _. a) in
+      rw (← (cause-same answers)) (record {
         cause = refl;
         reached = z .reached;
         unit = z .states .unit;
-        lent = record { answers = z .answers; storage = z .mains .but; blocks = z .stores .same; outside = z .stores .kept; outside′ = z .stores .kept′ };
+        answers = z .answers;
+        lent = record { storage = z .mains .but; blocks = z .stores .same; outside = z .stores .kept; outside′ = z .stores .kept′ };
       })
 
   -- and so it can where C calls
   pub moved-hosted : (unit answers : List ℕ)
-      → SameHosted dev chain d main main′ store store′ (hostCallOf dev chain main store unit answers) (hostCallOf dev chain main′ store′ unit answers)
-  moved-hosted unit answers = go (length unit =? recordSize) refl
-    where
-      go : (b : Bool) → length unit =? recordSize ≡ b
-          → SameHosted dev chain d main main′ store store′ (hostCallOf dev chain main store unit answers) (hostCallOf dev chain main′ store′ unit answers)
-      go true e =
-          let s = moved-same (recordOf unit) answers in
-          let l = eqb-true _ _ e in
-          rw (host-is-call dev chain main store unit answers l, host-is-call dev chain main′ store′ unit answers l) (record {
-            result = rw (s .cause, s .reached);
-            unit = ap recordBytes (s .unit);
-            lent = s .lent;
-          })
-      go false e =
-          let w = ap firstOf (causes-same answers) in
-          let n = eqb-false _ _ e in
-          rw (host-no-record dev chain main store unit answers _ n w, host-no-record dev chain main′ store′ unit answers _ n refl) (record {
-            result = refl;
-            unit = refl;
-            lent = record { answers = refl; storage = h .typed; blocks = h .blocks; outside = λ _ _. refl; outside′ = λ _ _. refl };
-          })
+      → SameHosted dev chain d l l′ (hostCallOf dev chain (l .main) (l .store) unit answers) (hostCallOf dev chain (l′ .main) (l′ .store) unit answers)
+  moved-hosted unit answers =
+      dite (ℕ-discrete (length unit) recordSize)
+      (λ e.
+      let s = moved-same (recordOf unit) answers in
+      rw (host-is-call dev chain (l .main) (l .store) unit answers e, host-is-call dev chain (l′ .main) (l′ .store) unit answers e)
+      (record { result = rw (s .cause, s .reached); unit = ap recordBytes (s .unit); answers = s .answers; lent = s .lent }))
+      (λ n.
+      let w = cause-same answers in
+      rw (host-no-record dev chain (l .main) (l .store) unit answers _ n w, host-no-record dev chain (l′ .main) (l′ .store) unit answers _ n refl)
+      (record { result = refl; unit = refl; answers = refl; lent = record { storage = h .typed; blocks = h .blocks; outside = λ _ _. refl; outside′ = λ _ _. refl } }))

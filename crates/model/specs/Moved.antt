@@ -1,11 +1,12 @@
 -- Demand 3, a data set can be moved: what two calls have in common before, and what they then have in common after.
+--     Own                    what each call is lent of its own: main storage and the store
 --     InChain                a CCW that the chain can come to
 --     OneExtent, ParametersAlone, SameButOffset, HasRoom, SameData
 --                            the sentences of the demand, one each
 --     Moved                  all of them
 --     SameLent               what was lent ends alike
 --     SameAfter, SameHosted  what they come to, and the same of two calls from C
--- Both calls have the chain, the unit record and the answers. That `Moved` gives `SameAfter` is `moved-same` in
+-- Chain, unit record and answers are the same in both calls. That `Moved` gives `SameAfter` is `moved-same` in
 -- `proofs/MovedRun.antt`. Two sentences of the demand are not asked for: that the sixteen bytes lie in main storage, and
 -- that the first displacement is not above the last. Where one fails the DEFINE EXTENT is refused in both calls, and alike.
 -- No rule of the unit stands here, and none of them cites this file. Assumes nothing.
@@ -23,6 +24,14 @@ use Rattle.model.specs.Lent.{ccwSize, ccwAt, flag, fetched, blockCount, 
 use Rattle.model.specs.Parameters.{extentLength, extentIn}
 use Rattle.model.specs.Chain.{Called}
 use Rattle.model.specs.Host.{Hosted}
+
+-- what each call is lent of its own
+pub record Own : Type 0 where
+  pub main : List ℕ
+  pub store : List ℕ
+
+abbrev pub own : List ℕ → List ℕ → Own
+own main store = record { main = main; store = store }
 
 -- the chain, up to the CCW where it ends: each CCW before this one has flag 40
 pub record InChain (chain : List ℕ) (i : ℕ) : Type 0 where
@@ -46,16 +55,14 @@ ParametersAlone chain d =
     (i : ℕ) → InChain chain i → (i ≡ d → ⊥)
     → (k : ℕ) → Among (ccwAt chain i .address) (ccwAt chain i .count) k → Among (ccwAt chain d .address) extentLength k → ⊥
 
+-- as long, and equal but for n bytes from a place on
+pub record SameBut (at n : ℕ) (x y : List ℕ) : Type 0 where
+  pub long : length x ≡ length y
+  pub same : (i : ℕ) → (Among at n i → ⊥) → getD x i 0 ≡ getD y i 0
+
 -- "Main storage is equal but for the four offset bytes among them"
-abbrev pub offsetAt : Ccw → ℕ
-offsetAt c = c .address + 4
-
-pub record SameBut (at n : ℕ) (l k : List ℕ) : Type 0 where
-  pub long : length l ≡ length k
-  pub same : (i : ℕ) → (Among at n i → ⊥) → getD l i 0 ≡ getD k i 0
-
 abbrev pub SameButOffset : Ccw → List ℕ → List ℕ → Type 0
-SameButOffset c main main′ = SameBut (offsetAt c) 4 main main′
+SameButOffset c main main′ = SameBut (c .address + 4) 4 main main′
 
 module _ (dev : Device) where
   -- "leave room for the extent (offset + last - first below the device's block count)"
@@ -71,34 +78,37 @@ module _ (dev : Device) where
   KeptOutside e store after = (n : ℕ) → (n < e .offset .0) ⊎ (e .offset .0 + (e .last .0 - e .first .0) < n) → blockAt dev after n ≡ blockAt dev store n
 
 -- what the sixteen bytes say
-abbrev pub extentAt : Ccw → List ℕ → Extent
-extentAt c main = extentIn (fetched c main extentLength)
+abbrev pub extentAt : List ℕ → ℕ → Own → Extent
+extentAt chain d l = extentIn (fetched (ccwAt chain d) (l .main) extentLength)
 
-pub record Moved (dev : Device) (chain : List ℕ) (d : ℕ) (main main′ store store′ : List ℕ) : Type 0 where
-  pub one : OneExtent chain d
-  pub alone : ParametersAlone chain d
-  pub typed : SameButOffset (ccwAt chain d) main main′
-  pub sizes : length store ≡ length store′
-  pub room : HasRoom dev (extentAt (ccwAt chain d) main) store
-  pub room′ : HasRoom dev (extentAt (ccwAt chain d) main′) store′
-  pub blocks : SameData dev (extentAt (ccwAt chain d) main) (extentAt (ccwAt chain d) main′) store store′
+-- two calls with one chain, l lent in the one and l′ in the other
+module _ (dev : Device) (chain : List ℕ) (d : ℕ) (l l′ : Own) where
+  pub record Moved : Type 0 where
+    pub one : OneExtent chain d
+    pub alone : ParametersAlone chain d
+    pub typed : SameButOffset (ccwAt chain d) (l .main) (l′ .main)
+    pub sizes : length (l .store) ≡ length (l′ .store)
+    pub room : HasRoom dev (extentAt chain d l) (l .store)
+    pub room′ : HasRoom dev (extentAt chain d l′) (l′ .store)
+    pub blocks : SameData dev (extentAt chain d l) (extentAt chain d l′) (l .store) (l′ .store)
 
--- what was lent ends alike: main storage, store and answers after each of the two, beside what they were
-pub record SameLent (dev : Device) (chain : List ℕ) (d : ℕ) (main main′ store store′ m m′ x x′ a a′ : List ℕ) : Type 0 where
-  pub answers : a ≡ a′
-  pub storage : SameButOffset (ccwAt chain d) m m′
-  pub blocks : SameData dev (extentAt (ccwAt chain d) main) (extentAt (ccwAt chain d) main′) x x′
-  pub outside : KeptOutside dev (extentAt (ccwAt chain d) main) store x
-  pub outside′ : KeptOutside dev (extentAt (ccwAt chain d) main′) store′ x′
+  -- what was lent ends alike: k is left of l, and k′ of l′
+  pub record SameLent (k k′ : Own) : Type 0 where
+    pub storage : SameButOffset (ccwAt chain d) (k .main) (k′ .main)
+    pub blocks : SameData dev (extentAt chain d l) (extentAt chain d l′) (k .store) (k′ .store)
+    pub outside : KeptOutside dev (extentAt chain d l) (l .store) (k .store)
+    pub outside′ : KeptOutside dev (extentAt chain d l′) (l′ .store) (k′ .store)
 
--- r and r′ are what the two calls gave
-pub record SameAfter (dev : Device) (chain : List ℕ) (d : ℕ) (main main′ store store′ : List ℕ) (r r′ : Called) : Type 0 where
-  pub cause : r .cause ≡ r′ .cause
-  pub reached : r .reached ≡ r′ .reached
-  pub unit : r .unit ≡ r′ .unit
-  pub lent : SameLent dev chain d main main′ store store′ (r .main) (r′ .main) (r .store) (r′ .store) (r .answers) (r′ .answers)
+  -- r and r′ are what the two calls gave
+  pub record SameAfter (r r′ : Called) : Type 0 where
+    pub cause : r .cause ≡ r′ .cause
+    pub reached : r .reached ≡ r′ .reached
+    pub unit : r .unit ≡ r′ .unit
+    pub answers : r .answers ≡ r′ .answers
+    pub lent : SameLent (own (r .main) (r .store)) (own (r′ .main) (r′ .store))
 
-pub record SameHosted (dev : Device) (chain : List ℕ) (d : ℕ) (main main′ store store′ : List ℕ) (r r′ : Hosted) : Type 0 where
-  pub result : r .result ≡ r′ .result
-  pub unit : r .unit ≡ r′ .unit
-  pub lent : SameLent dev chain d main main′ store store′ (r .main) (r′ .main) (r .store) (r′ .store) (r .answers) (r′ .answers)
+  pub record SameHosted (r r′ : Hosted) : Type 0 where
+    pub result : r .result ≡ r′ .result
+    pub unit : r .unit ≡ r′ .unit
+    pub answers : r .answers ≡ r′ .answers
+    pub lent : SameLent (own (r .main) (r .store)) (own (r′ .main) (r′ .store))
