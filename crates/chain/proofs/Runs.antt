@@ -42,6 +42,7 @@ use Rattle.model.proofs.Lengths.{Going, next-going, some-block}
 use Rattle.model.proofs.Safety.{safe-start}
 use Rattle.model.proofs.Steps.{step-cause}
 use Rattle.unit_state.specs.declared.Left.{Left}
+use Rattle.sense_table.specs.Sensed.{senseShowing, noSense}
 use Rattle.unit_state.specs.declared.Running.{Running}
 use Rattle.log.specs.Counts.{counted}
 use Rattle.unit_state.specs.Standing.{started, unitOf, stateOf, stateLeft, Sound}
@@ -64,7 +65,7 @@ module _ (dev : Device) (chain : List ℕ) where
   run-suc m n i y e = rw e
 
   left-done : (n i : ℕ) (s : Running) (y : System) → n ≡ 0
-      → leftFrom dev chain n i s y ≡ record { state = s; parameters = zeros locateLength; cause = 0 }
+      → leftFrom dev chain n i s y ≡ record { state = s; sense = noSense; cause = 0 }
   unfolding leftFrom
   left-done n i s y e = rw e
 
@@ -150,7 +151,7 @@ module _ (dev : Device) (chain : List ℕ) where
         f ∙ sym (left-suc (n - i) (n - (i + 1)) i s here (omega arith) ∙ pick-false _ _ _ g) ∙ w .same .1,
       )
 
-      pub underway-done : n ≤ i → Given here (record { state = s; parameters = zeros locateLength; cause = 0 })
+      pub underway-done : n ≤ i → Given here (record { state = s; sense = noSense; cause = 0 })
       underway-done h = (sym (run-done (n - i) i here (omega arith)) ∙ w .same .0, sym (left-done (n - i) i s here (omega arith)) ∙ w .same .1)
 
 -- an answer's two numbers, put one after the other, and the mark of a wrong length
@@ -169,8 +170,8 @@ pub left-known : (u : Record) (c : Ccw) (s : Running) (l : Left) (o : Out) → L
 unfolding leftOf pick stateOf unitOf counted withCounts
 left-known u c s l o p =
     let state = go (o .done .cause =? 0) refl in
-    let parameters = p .parameters ∙ ap (λ (w : ℕ). shown w (fetched c (o .main) locateLength)) (p .cause) in
-    λ i. record { state = state i; parameters = parameters i; cause = p .cause i }
+    let sense = p .sense ∙ ap (λ (w : ℕ). senseShowing w (shown w (fetched c (o .main) locateLength))) (p .cause) in
+    λ i. record { state = state i; sense = sense i; cause = p .cause i }
   where
     go : (b : Bool) → o .done .cause =? 0 ≡ b → l .state ≡ pick b (carriedOf (s .kept && c .command =? NO-OPERATION) (o .done .state)) s
     go true e =

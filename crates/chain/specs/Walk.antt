@@ -25,6 +25,7 @@ use Rattle.model.specs.Parameters.{locateLength}
 use Rattle.model.specs.Sense.{shown}
 use Rattle.model.specs.Commands.{Out}
 use Rattle.model.specs.Chain.{System, system, stepAt, next, more, run, start, Called, called, classA, call}
+use Rattle.sense_table.specs.Sensed.{senseShowing, noSense}
 use Rattle.unit_state.specs.declared.Running.{Running}
 use Rattle.unit_state.specs.declared.Left.{Left}
 use Rattle.unit_state.specs.Standing.{started, stateOf, stateLeft}
@@ -46,7 +47,7 @@ carriedOf kept s = record {
 unfoldable pub leftOf : Ccw → Running → Out → Left
 leftOf c s o = record {
   state = pick (o .done .cause =? 0) (carriedOf (s .kept && c .command =? NO-OPERATION) (o .done .state)) s;
-  parameters = shown (o .done .cause) (fetched c (o .main) locateLength);
+  sense = senseShowing (o .done .cause) (shown (o .done .cause) (fetched c (o .main) locateLength));
   cause = o .done .cause;
 }
 
@@ -55,7 +56,7 @@ module _ (dev : Device) (chain : List ℕ) where
   leftAt i s y = leftOf (ccwAt chain i) s (stepAt dev chain i y)
 
   unfoldable pub leftFrom : ℕ → ℕ → Running → System → Left
-  leftFrom zero i s y = record { state = s; parameters = zeros locateLength; cause = 0 }
+  leftFrom zero i s y = record { state = s; sense = noSense; cause = 0 }
   leftFrom (suc n) i s y = pick (more dev chain i y) (leftFrom n (i + 1) (leftAt i s y .state) (next dev chain i y)) (leftAt i s y)
 
   abbrev pub runOf : System → System

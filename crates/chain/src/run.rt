@@ -6,6 +6,7 @@ use model::device::Device;
 use model::record::Record;
 use model::sizes;
 use model::status::Channel;
+use sense_table::Sense;
 use slices::put_at;
 use unit::step;
 use unit_state::Left;
@@ -128,7 +129,7 @@ pub fn run_chain(
     Walked {
         left: Left {
             state: state,
-            parameters: [0u8; sizes::LOCATE],
+            sense: Sense::none(),
             cause: 0,
         },
         reached: i,

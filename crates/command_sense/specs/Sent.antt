@@ -10,7 +10,7 @@ use Rattle.model.specs.Parameters.{locateLength}
 use Rattle.unit_state.specs.declared.Running.{Running}
 use Rattle.unit_state.specs.Standing.{wentOn}
 use Rattle.endings.specs.declared.Ended.{Ended}
-use Rattle.endings.specs.Ending.{endOf}
+use Rattle.endings.specs.Ending.{acceptedEnd}
 
 abbrev pub sentEnd : Ccw → Running → ℕ → Counts → Ended
-sentEnd c s can k = endOf c (wentOn s k Other) (min (c .count) can) can 0 0 (zeros locateLength)
+sentEnd c s can k = acceptedEnd c (wentOn s k Other) (min (c .count) can) can 0

@@ -43,7 +43,7 @@ use Rattle.unit_state.specs.declared.Running.{Running}
 use Rattle.unit_state.specs.Standing.{wentOn, withExtent, stateOf, Sound, Handed}
 use Rattle.unit_state.proofs.Units.{went-on, with-extent, same-counts}
 use Rattle.endings.specs.declared.Ended.{Ended}
-use Rattle.endings.specs.Ending.{endOf, Ends}
+use Rattle.endings.specs.Ending.{refusedEnd, Ends}
 use Rattle.endings.proofs.Ends.{refused-by, accepted-by}
 use Rattle.command_transfer.specs.declared.Move.{Move}
 use Rattle.command_transfer.specs.Transferred.{moveOf, readEnd, writtenBy, writeEnd, iplEnd}
@@ -92,12 +92,12 @@ pub record Passed (follows : ℕ → Bool) (dev : Device) (c : Ccw) (s : Running
 
 -- `b` and `f` are what the code asked: does a LOCATE stand directly before, and may the command follow it
 module _ {follows : ℕ → Bool} {dev : Device} {c : Ccw} {s : Running} {main store : List ℕ} (t : Transfer follows dev c s main store) {b : Bool} (before : b ≡ a-locate (s .before)) where
-  pub no-locate : {u : Record} {r : Ended} → not b ≡ true → r ≡ endOf c s 0 0 0 41 (zeros locateLength) → Ends u c s r main store (performed dev c (stateOf u s) main store)
+  pub no-locate : {u : Record} {r : Ended} → not b ≡ true → r ≡ refusedEnd c s 41 (zeros locateLength) → Ends u c s r main store (performed dev c (stateOf u s) main store)
   unfolding transferCauses stateOf
   no-locate {u} {r} h e = refused-by u c s main store _ _ _ 41 r (t .is (stateOf u s)) e (first-here _ _ (ap not (sym before) ∙ h)) refl refl
 
   module _ {f : Bool} (located : f ≡ follows (s .located .operation)) (h : not b ≡ false) where
-    pub other-locate : {u : Record} {r : Ended} → not f ≡ true → r ≡ endOf c s 0 0 0 42 (zeros locateLength) → Ends u c s r main store (performed dev c (stateOf u s) main store)
+    pub other-locate : {u : Record} {r : Ended} → not f ≡ true → r ≡ refusedEnd c s 42 (zeros locateLength) → Ends u c s r main store (performed dev c (stateOf u s) main store)
     unfolding transferCauses stateOf
     other-locate {u} {r} k e =
         refused-by u c s main store _ _ _ 42 r (t .is (stateOf u s)) e (first-later _ _ (ap not (sym before) ∙ h) ∙ first-here _ _ (ap not (sym located) ∙ k)) refl refl

@@ -16,7 +16,7 @@ use Rattle.log.specs.Counts.{withRead, withWritten, withMovement}
 use Rattle.unit_state.specs.declared.Running.{Running}
 use Rattle.unit_state.specs.Standing.{wentOn, withExtent}
 use Rattle.endings.specs.declared.Ended.{Ended}
-use Rattle.endings.specs.Ending.{endOf}
+use Rattle.endings.specs.Ending.{acceptedEnd}
 use Rattle.command_transfer.specs.declared.Move.{Move}
 
 abbrev pub moveOf : Device → Ccw → Running → Move
@@ -27,14 +27,14 @@ moveOf dev c s = record {
 }
 
 abbrev pub readEnd : Device → Ccw → Running → Move → Ended
-readEnd dev c s m = endOf c (wentOn s (withRead (begun dev (m .n)) (s .counts)) Other) (m .n) (m .can) (begun dev (m .n)) 0 (zeros locateLength)
+readEnd dev c s m = acceptedEnd c (wentOn s (withRead (begun dev (m .n)) (s .counts)) Other) (m .n) (m .can) (begun dev (m .n))
 
 -- the counts after a WRITE of so many blocks: those of a write and check are counted
 unfoldable pub writtenBy : ℕ → ℕ → Counts → Counts
 writtenBy operation blocks k = pick (operation =? write-check) (withWritten blocks k) k
 
 abbrev pub writeEnd : Device → Ccw → Running → Move → Ended
-writeEnd dev c s m = endOf c (wentOn s (writtenBy (s .located .operation) (s .located .blocks) (s .counts)) Other) (m .n) (m .can) (begun dev (m .n)) 0 (zeros locateLength)
+writeEnd dev c s m = acceptedEnd c (wentOn s (writtenBy (s .located .operation) (s .located .blocks) (s .counts)) Other) (m .n) (m .can) (begun dev (m .n))
 
 abbrev pub iplEnd : Device → Ccw → Running → ℕ → ℕ → Ended
-iplEnd dev c s n blocks = endOf c (withExtent s (withMovement (withRead 1 (s .counts))) (wholeDevice dev blocks) ReadIpl) n (dev .block) 1 0 (zeros locateLength)
+iplEnd dev c s n blocks = acceptedEnd c (withExtent s (withMovement (withRead 1 (s .counts))) (wholeDevice dev blocks) ReadIpl) n (dev .block) 1

@@ -5,7 +5,7 @@
 --     refused-by, accepted-by, decided-by
 --                                    the same, whole: by a cause without parameters; accepted; by the parameters of DEFINE EXTENT or LOCATE
 use Prim.Native.Nat.{ℕ, _-_}
-use mathlib.Core.Path.{_≡_, refl, sym}
+use mathlib.Core.Path.{_≡_, refl, sym, ap, _∙_}
 use mathlib.Core.Bool.{false, _&&_}
 use mathlib.Core.List.{List}
 use borrow.Author.Tests.{eqb-false, ne-eqb}
@@ -18,28 +18,31 @@ use Rattle.model.specs.Names.{NO-OPERATION}
 use Rattle.model.specs.Lent.{fetched}
 use Rattle.model.specs.Parameters.{locateLength}
 use Rattle.model.specs.Sense.{shown}
-use Rattle.model.specs.Commands.{Out, out, ended, refused, decided}
+use Rattle.model.specs.Causes.{kindOf}
+use Rattle.model.specs.Commands.{Out, out, leaves, ended, refused, decided}
 use Rattle.model.specs.Answer.{residual}
+use Rattle.sense_table.specs.Sensed.{senseShowing}
+use Rattle.sense_table.proofs.Stores.{sense-is, none-showing}
 use Rattle.unit_state.specs.declared.Running.{Running}
 use Rattle.unit_state.specs.Standing.{stateOf}
 use Rattle.endings.specs.declared.Ended.{Ended}
-use Rattle.endings.specs.Ending.{endOf, Ends}
+use Rattle.endings.specs.Ending.{acceptedEnd, refusedEnd, Ends}
 
 module _ (u : Record) (c : Ccw) (s : Running) (main store : List ℕ) where
-  pub refused-ends : (w : ℕ) (p : List ℕ) (r : Ended) → r ≡ endOf c s 0 0 0 w p → p ≡ shown w (fetched c main locateLength) → (w ≡ 0 → ⊥)
+  pub refused-ends : (w : ℕ) (p : List ℕ) (r : Ended) → r ≡ refusedEnd c s w p → p ≡ shown w (fetched c main locateLength) → (w ≡ 0 → ⊥)
       → Ends u c s r main store (refused c (stateOf u s) main store w)
   unfolding refused residual
   refused-ends w p r e f n =
       rw (e, f)
       (record {
-        left = record { state = refl; cause = refl; kept = λ z. absurd (n z); refused = λ _. refl; parameters = refl };
+        left = record { state = ap (leaves (kindOf w) (stateOf u s)) (sense-is w (shown w (fetched c main locateLength))); cause = refl; kept = λ z. absurd (n z); refused = λ _. refl; sense = refl };
         answer = refl;
         wrong = refl;
         main-same = refl;
         store-same = refl;
       })
 
-  pub accepted-ends : (t : Running) (moved can blocks : ℕ) (r : Ended) (main′ store′ : List ℕ) (o : Out) → r ≡ endOf c t moved can blocks 0 (zeros locateLength)
+  pub accepted-ends : (t : Running) (moved can blocks : ℕ) (r : Ended) (main′ store′ : List ℕ) (o : Out) → r ≡ acceptedEnd c t moved can blocks
       → t .kept ≡ (s .kept && c .command =? NO-OPERATION) → o .done ≡ ended (stateOf u t) moved can blocks → main′ ≡ o .main → store′ ≡ o .store
       → Ends u c s r main′ store′ o
   unfolding residual shown
@@ -51,7 +54,7 @@ module _ (u : Record) (c : Ccw) (s : Running) (main store : List ℕ) where
           cause = rw d refl;
           kept = λ _. k;
           refused = λ n. absurd (n refl);
-          parameters = sym (pick-false _ _ _ refl);
+          sense = sym (ap (senseShowing 0) (pick-false _ _ _ refl) ∙ none-showing);
         };
         answer = rw d refl;
         wrong = rw d refl;
@@ -72,21 +75,21 @@ module _ (u : Record) (c : Ccw) (s : Running) (main store : List ℕ) where
   -- x is a command that a table decides
 
   -- refused, by a cause that shows no parameters
-  pub refused-by : (x : Out) (v : ℕ) (o : Out) (w : ℕ) (r : Ended) → x ≡ decided c (stateOf u s) main store v o → r ≡ endOf c s 0 0 0 w (zeros locateLength) → v ≡ w → w =? 0 ≡ false → w =? 39 ≡ false
+  pub refused-by : (x : Out) (v : ℕ) (o : Out) (w : ℕ) (r : Ended) → x ≡ decided c (stateOf u s) main store v o → r ≡ refusedEnd c s w (zeros locateLength) → v ≡ w → w =? 0 ≡ false → w =? 39 ≡ false
       → Ends u c s r main store x
   unfolding shown
   refused-by x v o w r d e f n m = rw d (decided-refused v w r o f (eqb-false _ _ n) (refused-ends w (zeros locateLength) r e (sym (pick-false _ _ _ m)) (eqb-false _ _ n)))
 
   -- accepted
   pub accepted-by : (x : Out) (v : ℕ) (o : Out) (t : Running) (moved can blocks : ℕ) (r : Ended) (main′ store′ : List ℕ)
-      → x ≡ decided c (stateOf u s) main store v o → v ≡ 0 → r ≡ endOf c t moved can blocks 0 (zeros locateLength)
+      → x ≡ decided c (stateOf u s) main store v o → v ≡ 0 → r ≡ acceptedEnd c t moved can blocks
       → t .kept ≡ (s .kept && c .command =? NO-OPERATION) → out (ended (stateOf u t) moved can blocks) main′ store′ ≡ o → Ends u c s r main′ store′ x
   accepted-by x v o t moved can blocks r main′ store′ d f e k p =
       rw d (decided-accepted v r main′ store′ o f (rw (← p) (accepted-ends t moved can blocks r main′ store′ _ e k refl refl refl)))
 
   -- by its parameters, and all that it moves is those
   pub decided-by : (x : Out) (v : ℕ) (o : Out) (t : Running) (n : ℕ) (p : List ℕ) (r : Ended)
-      → x ≡ decided c (stateOf u s) main store v o → r ≡ pick (v =? 0) (endOf c t n n 0 0 (zeros locateLength)) (endOf c s 0 0 0 v p)
+      → x ≡ decided c (stateOf u s) main store v o → r ≡ pick (v =? 0) (acceptedEnd c t n n 0) (refusedEnd c s v p)
       → (v =? 0 ≡ false → p ≡ shown v (fetched c main locateLength))
       → t .kept ≡ (s .kept && c .command =? NO-OPERATION) → out (ended (stateOf u t) n n 0) main store ≡ o → Ends u c s r main store x
   unfolding decided

@@ -2,7 +2,7 @@
 --     answerWords, answerBytes   an answer as the code carries it, and its bytes
 --     marked                     those bytes, where the length is wrong
 --     wrongBy                    the length is wrong: of an accepted command alone
---     endOf                      what `end` makes, whole
+--     endOf                      what `end` makes, whole; acceptedEnd, refusedEnd   of a command that is accepted, or refused showing these parameters
 --     Leaves                     what is left of the unit is what the definition's command left, and nothing in it is open
 --     Ends                       so is all that a command gives: the promise of every command
 -- Assumes nothing.
@@ -24,6 +24,8 @@ use Rattle.model.specs.Causes.{kindOf}
 use Rattle.model.specs.Sense.{shown}
 use Rattle.model.specs.Commands.{Out}
 use Rattle.model.specs.Answer.{unitStatus, channelBy, wrongLength, residual}
+use Rattle.sense_table.specs.declared.Sense.{Sense}
+use Rattle.sense_table.specs.Sensed.{senseShowing, noSense}
 use Rattle.unit_state.specs.declared.Running.{Running}
 use Rattle.unit_state.specs.declared.Left.{Left}
 use Rattle.unit_state.specs.Standing.{stateLeft}
@@ -47,12 +49,19 @@ wrongBy Accepted c can = wrongLength c can
 wrongBy ProgramCheck c can = false
 wrongBy UnitCheck c can = false
 
-abbrev pub endOf : Ccw → Running → ℕ → ℕ → ℕ → ℕ → List ℕ → Ended
-endOf c s moved can blocks cause parameters = record {
-  left = record { state = s; parameters = parameters; cause = cause };
+abbrev pub endOf : Ccw → Running → ℕ → ℕ → ℕ → ℕ → Sense → Ended
+endOf c s moved can blocks cause sense = record {
+  left = record { state = s; sense = sense; cause = cause };
   answer = answerWords (kindOf cause) (c .count - moved) cause blocks;
   wrong = wrongBy (kindOf cause) c can;
 }
+
+abbrev pub acceptedEnd : Ccw → Running → ℕ → ℕ → ℕ → Ended
+acceptedEnd c s moved can blocks = endOf c s moved can blocks 0 noSense
+
+-- a refusal has moved nothing
+abbrev pub refusedEnd : Ccw → Running → ℕ → List ℕ → Ended
+refusedEnd c s cause parameters = endOf c s 0 0 0 cause (senseShowing cause parameters)
 
 -- in a chain that found record u, of a command that found state s
 pub record Leaves (u : Record) (c : Ccw) (s : Running) (l : Left) (o : Out) : Type 0 where
@@ -60,7 +69,7 @@ pub record Leaves (u : Record) (c : Ccw) (s : Running) (l : Left) (o : Out) : Ty
   pub cause : l .cause ≡ o .done .cause
   pub kept : l .cause ≡ 0 → l .state .kept ≡ (s .kept && c .command =? NO-OPERATION)
   pub refused : (l .cause ≡ 0 → ⊥) → l .state ≡ s
-  pub parameters : l .parameters ≡ shown (l .cause) (fetched c (o .main) locateLength)
+  pub sense : l .sense ≡ senseShowing (l .cause) (shown (l .cause) (fetched c (o .main) locateLength))
 
 pub record Ends (u : Record) (c : Ccw) (s : Running) (r : Ended) (main store : List ℕ) (o : Out) : Type 0 where
   pub left : Leaves u c s (r .left) o

@@ -6,6 +6,7 @@ use model::kind::Kind;
 use model::sizes;
 use model::status::Channel;
 use model::status::Status;
+use sense_table::Sense;
 use unit_state::Left;
 use unit_state::Running;
 use unit_state::carried;
@@ -15,7 +16,7 @@ ghost use Rattle.slices.specs.Parts.{zeros};
 ghost use Rattle.model.specs.Parameters.{locateLength};
 ghost use Rattle.model.specs.Answer.{wrongLength};
 ghost use Rattle.model.specs.Safe.{CcwFits};
-ghost use Rattle.endings.specs.Ending.{answerWords, wrongBy, endOf};
+ghost use Rattle.endings.specs.Ending.{answerWords, wrongBy, endOf, acceptedEnd, refusedEnd};
 
 // Its bytes as two numbers: unit status, channel status, residual count (2); cause, zero, blocks moved (2).
 pub struct Answer {
@@ -68,7 +69,7 @@ fn wrong_by(kind: Kind, c: Ccw, can: usize) -> bool
 }
 
 // A command that moved so many bytes of those that it could, and so many blocks, with a cause, or 0. The state is the one that is
-// left, or, of a refused command, the one that it found; the parameters are those that its cause shows.
+// left, or, of a refused command, the one that it found; the sense is that of its cause.
 pub fn end(
     c: Ccw,
     s: Running,
@@ -76,16 +77,16 @@ pub fn end(
     can: usize,
     blocks: usize,
     cause: u8,
-    parameters: [u8; sizes::LOCATE],
+    sense: Sense,
 ) -> Ended
     requires { ⌜ CcwFits c × (moved ≤ c .count) × (blocks < 65536) ⌝ }
-    ensures { λ r. ⌜ r ≡ endOf c s moved can blocks cause parameters ⌝ }
+    ensures { λ r. ⌜ r ≡ endOf c s moved can blocks cause sense ⌝ }
 {
     let kind = Kind::of(cause);
     Ended {
         left: Left {
             state: carried(s),
-            parameters: parameters,
+            sense: sense,
             cause: cause,
         },
         answer: answer_of(kind, c.count - moved, cause, blocks),
@@ -95,23 +96,23 @@ pub fn end(
 
 pub fn accept(c: Ccw, s: Running, moved: usize, can: usize, blocks: usize) -> Ended
     requires { ⌜ CcwFits c × (moved ≤ c .count) × (blocks < 65536) ⌝ }
-    ensures { λ r. ⌜ r ≡ endOf c s moved can blocks 0 (zeros locateLength) ⌝ }
+    ensures { λ r. ⌜ r ≡ acceptedEnd c s moved can blocks ⌝ }
 {
-    end(c, s, moved, can, blocks, 0, [0u8; sizes::LOCATE])
+    end(c, s, moved, can, blocks, 0, Sense::none())
 }
 
 // A refusal has moved nothing. The parameters are those that its cause shows.
 pub fn refuse_showing(c: Ccw, s: Running, cause: u8, parameters: [u8; sizes::LOCATE]) -> Ended
     requires { ⌜ CcwFits c ⌝ }
-    ensures { λ r. ⌜ r ≡ endOf c s 0 0 0 cause parameters ⌝ }
+    ensures { λ r. ⌜ r ≡ refusedEnd c s cause parameters ⌝ }
 {
-    end(c, s, 0, 0, 0, cause, parameters)
+    end(c, s, 0, 0, 0, cause, Sense::of(cause, parameters))
 }
 
 // For any cause but 39, which alone shows them.
 pub fn refuse(c: Ccw, s: Running, cause: u8) -> Ended
     requires { ⌜ CcwFits c ⌝ }
-    ensures { λ r. ⌜ r ≡ endOf c s 0 0 0 cause (zeros locateLength) ⌝ }
+    ensures { λ r. ⌜ r ≡ refusedEnd c s cause (zeros locateLength) ⌝ }
 {
     refuse_showing(c, s, cause, [0u8; sizes::LOCATE])
 }

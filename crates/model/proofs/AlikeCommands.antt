@@ -23,9 +23,9 @@ use Rattle.model.specs.Rules.{Rule, _when_, firstOf}
 use Rattle.model.specs.Lent.{fetched, delivered, blockCount, blocksFrom}
 use Rattle.model.specs.Parameters.{locateLength, locatedIn, address, reads, writes}
 use Rattle.model.specs.Causes.{channelCauses, unitCauses, extentCauses, defineExtentCauses, permissionCauses, locationCauses, locateCauses, readIplCauses, transferCauses, verdict, a-locate, kindOf}
-use Rattle.model.specs.Sense.{shown, senseOf}
+use Rattle.model.specs.Sense.{shown}
 use Rattle.model.specs.Log.{withSense, movementCounted, logOf, logReset}
-use Rattle.model.specs.Commands.{Out, after, extentSet, locateSet, noOperation, defineExtent, locate, sent, sense, senseType, readLog, begun, read, write, accepted, refusal, refused, cleared, seen, decided, step, defineDone, locateDone, readDone, writeDone}
+use Rattle.model.specs.Commands.{Out, senseGiven, after, extentSet, locateSet, noOperation, defineExtent, locate, sent, sense, senseType, readLog, begun, read, write, accepted, refusal, refused, cleared, seen, decided, step, defineDone, locateDone, readDone, writeDone}
 use Rattle.model.specs.Safe.{InExtent, Safe}
 use Rattle.model.specs.Exactly.{absent}
 use Rattle.numbers.proofs.Choice.{pick-both}
@@ -61,7 +61,7 @@ module _ (dev : Device) (F : Place) (c : Ccw) (f : Fits F c) (s t : State) (r : 
   refused-alike : (w : ℕ) → verdict dev c s m x ≡ w → Outs dev F (refused c s m x w) (refused c t m′ x′ w)
   unfolding refused
   refused-alike w e =
-      let left = leaves-both (States F) (kindOf w) s t w (shown w (fetched c m locateLength)) (shown w (fetched c m′ locateLength)) r (states-after F s t _ _ _ _ (r .unit) refl r) (states-after F s t _ _ _ _ (rw (r .unit, shown-same w e)) refl r) in
+      let left = leaves-both (States F) (kindOf w) s t (senseGiven w c m) (senseGiven w c m′) r (states-after F s t _ _ _ _ (r .unit) refl r) (states-after F s t _ _ _ _ (rw (r .unit, shown-same w e)) refl r) in
       record { dones = record { cause = refl; moved = refl; can = refl; blocks = refl; states = left }; mains = g; stores = h }
 
   -- commands that move no block

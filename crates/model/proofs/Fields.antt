@@ -1,6 +1,7 @@
 -- Bytes stay bytes, and counts fit their fields.
 --     Sized         so many bytes
 --     IsRecord      a unit record: each field has its bytes
+--     sense-row     each row of the table of sense is bytes
 --     step-fields   one command: record, main storage and store stay bytes; the numbers of its answer fit theirs
 -- Assumes nothing.
 use Prim.Native.Nat.{ℕ, zero, suc, _+_, _-_, _*_, _/_, _≤_, _<_, min}
@@ -27,7 +28,7 @@ use Rattle.model.specs.Parameters.{locateLength}
 use Rattle.model.specs.Causes.{channelCauses, unitCauses, extentCauses, defineExtentCauses, permissionCauses, locationCauses, locateCauses, readIplCauses, transferCauses, ownCauses, causesOf, verdict, kindOf}
 use Rattle.model.specs.Sense.{CauseRow, senseTable, rowIn, shown, senseOf}
 use Rattle.model.specs.Log.{withSense, withCounts, added3, added2, readCounted, writtenCounted, movementCounted, logOf, logReset}
-use Rattle.model.specs.Commands.{Out, noOperation, defineExtent, locate, sent, sense, senseType, readLog, begun, read, write, readIpl, refused, refusal, cleared, seen, after, extentSet, locateSet, step, defineDone, iplDone, locateDone, readDone, writeDone}
+use Rattle.model.specs.Commands.{Out, senseGiven, noOperation, defineExtent, locate, sent, sense, senseType, readLog, begun, read, write, readIpl, refused, refusal, cleared, seen, after, extentSet, locateSet, step, defineDone, iplDone, locateDone, readDone, writeDone}
 use Rattle.model.specs.Exactly.{absent}
 use Rattle.numbers.proofs.Choice.{pick-ind}
 use Rattle.numbers.proofs.Joined.{both-true}
@@ -83,10 +84,10 @@ small-rows : List CauseRow → Bool
 small-rows [] = true
 small-rows (r ∷ rs) = (r .byte0 <? 256 && r .byte1 <? 256 && r .byte7 <? 256) && small-rows rs
 
-record IsRow (r : CauseRow) : Type 0 where
-  byte0 : r .byte0 < 256
-  byte1 : r .byte1 < 256
-  byte7 : r .byte7 < 256
+pub record IsRow (r : CauseRow) : Type 0 where
+  pub byte0 : r .byte0 < 256
+  pub byte1 : r .byte1 < 256
+  pub byte7 : r .byte7 < 256
 
 row-in : (rs : List CauseRow) → small-rows rs ≡ true → (w : ℕ) → IsRow (rowIn rs w)
 unfolding rowIn small-rows
@@ -99,10 +100,14 @@ row-in (r ∷ rs) e w =
     (λ _. record { byte0 = ltb-true _ _ (t .0); byte1 = ltb-true _ _ (t .1); byte7 = ltb-true _ _ (q .1) })
     (λ _. row-in rs (p .1) w)
 
+pub sense-row : (w : ℕ) → IsRow (rowIn senseTable w)
+unfolding small-rows
+sense-row w = row-in senseTable refl w
+
 sense-bytes : (w : ℕ) (p : List ℕ) → AreBytes p → AreBytes (senseOf w p)
-unfolding senseOf small-rows
+unfolding senseOf
 sense-bytes w p b =
-    let r = row-in senseTable refl w in
+    let r = sense-row w in
     bytes-put _ _ _ (bytes-put _ _ _ (bytes-put _ _ _ (bytes-zeros 24) (bytes-cons _ _ (r .byte0) (bytes-cons _ _ (r .byte1) bytes-nil)))
     (bytes-cons _ _ (r .byte7) bytes-nil))
     b
@@ -202,7 +207,7 @@ module _ (dev : Device) (c : Ccw) (s : State) (main store : List ℕ) (h : 1 ≤
   refused-fields w e = record {
     unit-fields =
         let p = shown-sized w (fetched c main locateLength) (λ z. located-bytes dev c s main store (e ∙ z)) (bytes-part main _ _ m) in
-        leaves-ind (λ (t : State). IsRecord (t .unit)) (kindOf w) s w (shown w (fetched c main locateLength)) r r
+        leaves-ind (λ (t : State). IsRecord (t .unit)) (kindOf w) s (senseGiven w c main) r r
         (sense-record (s .unit) _ (record { long = sense-length w _ (p .long); bytes = sense-bytes w _ (p .bytes) }) r);
     main-bytes = m;
     store-bytes = d;

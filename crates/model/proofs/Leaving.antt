@@ -14,23 +14,21 @@ use Rattle.model.specs.declared.kind.Kind.the-variants.{Accepted, Progra
 use Rattle.model.specs.declared.state.Before.the-variants.{Other}
 use Rattle.model.specs.State.{State}
 use Rattle.model.specs.Causes.{kindBy, kindOf}
-use Rattle.model.specs.Sense.{senseOf}
 use Rattle.model.specs.Log.{withSense}
 use Rattle.model.specs.Commands.{after, leaves}
 use Rattle.model.specs.Answer.{unitStatus, channelBy}
 
-pub leaves-ind : (P : State → Type 0) (k : Kind) (s : State) (w : ℕ) (p : List ℕ)
-    → P s → P (after s (s .unit) Other) → P (after s (withSense (s .unit) (senseOf w p)) Other) → P (leaves k s w p)
-leaves-ind P Accepted s w p x y z = x
-leaves-ind P ProgramCheck s w p x y z = y
-leaves-ind P UnitCheck s w p x y z = z
+pub leaves-ind : (P : State → Type 0) (k : Kind) (s : State) (l : List ℕ) → P s → P (after s (s .unit) Other) → P (after s (withSense (s .unit) l) Other) → P (leaves k s l)
+leaves-ind P Accepted s l x y z = x
+leaves-ind P ProgramCheck s l x y z = y
+leaves-ind P UnitCheck s l x y z = z
 
-pub leaves-both : (P : State → State → Type 0) (k : Kind) (s t : State) (w : ℕ) (p q : List ℕ)
-    → P s t → P (after s (s .unit) Other) (after t (t .unit) Other) → P (after s (withSense (s .unit) (senseOf w p)) Other) (after t (withSense (t .unit) (senseOf w q)) Other)
-    → P (leaves k s w p) (leaves k t w q)
-leaves-both P Accepted s t w p q x y z = x
-leaves-both P ProgramCheck s t w p q x y z = y
-leaves-both P UnitCheck s t w p q x y z = z
+pub leaves-both : (P : State → State → Type 0) (k : Kind) (s t : State) (l m : List ℕ)
+    → P s t → P (after s (s .unit) Other) (after t (t .unit) Other) → P (after s (withSense (s .unit) l) Other) (after t (withSense (t .unit) m) Other)
+    → P (leaves k s l) (leaves k t m)
+leaves-both P Accepted s t l m x y z = x
+leaves-both P ProgramCheck s t l m x y z = y
+leaves-both P UnitCheck s t l m x y z = z
 
 pub status-byte : (k : Kind) → unitStatus k < 256
 status-byte Accepted = omega arith

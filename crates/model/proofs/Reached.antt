@@ -25,11 +25,9 @@ use Rattle.model.specs.declared.record.Record.{Record}
 use Rattle.model.specs.declared.device.Device.{Device}
 use Rattle.model.specs.State.{State, Done}
 use Rattle.model.specs.Rules.{firstOf}
-use Rattle.model.specs.Lent.{ccwSize, ccwAt, fetched}
-use Rattle.model.specs.Parameters.{locateLength}
+use Rattle.model.specs.Lent.{ccwSize, ccwAt}
 use Rattle.model.specs.Causes.{callCauses, causesOf, verdict}
-use Rattle.model.specs.Sense.{shown}
-use Rattle.model.specs.Commands.{after, refused, refusal}
+use Rattle.model.specs.Commands.{after, senseGiven, refused, refusal}
 use Rattle.model.specs.Answer.{channelStatus, residual, answerSize, answerOf, goesOn}
 use Rattle.model.specs.Chain.{System, system, stepAt, next, more, run, start, Called, called, callOf}
 use Rattle.model.specs.Exactly.{GivenExactly}
@@ -58,7 +56,7 @@ module _ (dev : Device) (chain : List ℕ) where
       let v : ℕ = verdict dev c (f .state) (f .main) (f .store) in
       let given : (v ≡ 0 → ⊥) = λ z. n (step-cause dev c (f .state) (f .main) (f .store) ∙ z) in
       let e = step-refused dev c (f .state) (f .main) (f .store) given in
-      record { last = refl; main = rw e refl; store = rw e refl; unit = rw e refl; answers = rw (e, refused-answer c (f .state) v (shown v (fetched c (f .main) locateLength)) given) refl }
+      record { last = refl; main = rw e refl; store = rw e refl; unit = rw e refl; answers = rw (e, refused-answer c (f .state) v (senseGiven v c (f .main)) given) refl }
 
   refused-stops : (i : ℕ) (f : System) → (stepAt dev chain i f .done .cause ≡ 0 → ⊥) → more dev chain i f ≡ false
   unfolding more goesOn

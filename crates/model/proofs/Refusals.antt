@@ -17,14 +17,12 @@ use Rattle.model.specs.declared.device.Device.{Device}
 use Rattle.model.specs.State.{State}
 use Rattle.numbers.specs.Choice.{pick}
 use Rattle.model.specs.Rules.{firstOf}
-use Rattle.model.specs.Lent.{ccwSize, fetched}
+use Rattle.model.specs.Lent.{ccwSize}
 use Rattle.model.specs.Causes.{callCauses, hostCauses, kindOf, verdict}
-use Rattle.model.specs.Sense.{shown}
 use Rattle.model.specs.Log.{withSense}
-use Rattle.model.specs.Commands.{Out, after, refused, step}
+use Rattle.model.specs.Commands.{Out, after, senseGiven, refused, step}
 use Rattle.model.specs.Chain.{called, callOf, start, system, run}
 use Rattle.model.specs.Host.{resultOf, hostCallOf}
-use Rattle.model.specs.Parameters.{locateLength}
 use Rattle.model.proofs.Leaving.{leaves-ind}
 use Rattle.model.proofs.Steps.{step-cause, step-refused}
 
@@ -73,7 +71,7 @@ refused-untouched c s main store w =
       main-same = refl;
       store-same = refl;
       nothing-moved = (refl, refl);
-      unit-check = leaves-ind (λ (t : State). SameButSense (s .unit) (t .unit)) (kindOf w) s w (shown w (fetched c main locateLength)) same same
+      unit-check = leaves-ind (λ (t : State). SameButSense (s .unit) (t .unit)) (kindOf w) s (senseGiven w c main) same same
           (record { blocks-read = refl; blocks-written = refl; movements = refl; ready = refl; read-only = refl });
       program-check = λ e. rw e;
     }

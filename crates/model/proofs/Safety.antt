@@ -20,8 +20,7 @@ use Rattle.numbers.specs.Choice.{_<?_}
 use Rattle.model.specs.Lent.{blockCount, fetched}
 use Rattle.model.specs.Parameters.{extentLength, extentIn, locateLength, locatedIn, processed, address, outside}
 use Rattle.model.specs.Causes.{extentCauses, defineExtentCauses, permissionCauses, locationCauses, locateCauses, transferCauses, a-locate, kindOf}
-use Rattle.model.specs.Sense.{shown}
-use Rattle.model.specs.Commands.{after, extentSet, locateSet, noOperation, defineExtent, locate, sent, sense, senseType, readLog, read, write, wholeDevice, readIpl, refused, refusal, seen, step, defineDone, iplDone, locateDone, readDone, writeDone}
+use Rattle.model.specs.Commands.{after, extentSet, locateSet, noOperation, defineExtent, locate, sent, sense, senseType, readLog, read, write, wholeDevice, readIpl, senseGiven, refused, refusal, seen, step, defineDone, iplDone, locateDone, readDone, writeDone}
 use Rattle.model.specs.Safe.{OnDevice, InExtent, Safe}
 use Rattle.model.specs.Chain.{start}
 use Rattle.model.specs.Exactly.{Failed}
@@ -103,7 +102,7 @@ module _ (dev : Device) (c : Ccw) (s : State) (main store : List ℕ) (some : 0 
       let t : State = seen c s in
       let k : Safe t n = safe-seen c s n h in
       record {
-        refusal = λ w _ _. leaves-ind (λ (t : State). Safe t n) (kindOf w) s w (shown w (fetched c main locateLength)) h (safe-after s _ _ n refl h) (safe-after s _ _ n refl h);
+        refusal = λ w _ _. leaves-ind (λ (t : State). Safe t n) (kindOf w) s (senseGiven w c main) h (safe-after s _ _ n refl h) (safe-after s _ _ n refl h);
         no-operation = λ _. safe-after t _ _ n refl k;
         define-extent = λ _ _ f.
             let d = define-ok dev n c s _ f in

@@ -4,7 +4,7 @@
 --     begun      the blocks that so many bytes begin
 --     noOperation, defineExtent, locate, read, write, readIpl, sense, senseType, readLog
 --                an accepted command; defineDone and the like are its ending, beside the bytes that it moves
---     refused    a command that was given a cause
+--     refused    a command that was given a cause, and with it this sense (senseGiven)
 --     performed  a command that the channel and the unit passed on: refused by the first of its own causes that holds, or accepted
 --     step       one command: by the first of all its causes
 -- Assumes nothing.
@@ -52,13 +52,13 @@ locateSet s u l = record { unit = u; defined = s .defined; extent = s .extent; b
 
 -- how a command ends: a program check leaves the record as it is, a unit check gives it new sense
 
-abbrev pub leaves : Kind → State → ℕ → List ℕ → State
-leaves Accepted s cause parameters = s
-leaves ProgramCheck s cause parameters = after s (s .unit) Other
-leaves UnitCheck s cause parameters = after s (withSense (s .unit) (senseOf cause parameters)) Other
+abbrev pub leaves : Kind → State → List ℕ → State
+leaves Accepted s sense = s
+leaves ProgramCheck s sense = after s (s .unit) Other
+leaves UnitCheck s sense = after s (withSense (s .unit) sense) Other
 
 abbrev pub ending : State → ℕ → List ℕ → ℕ → ℕ → ℕ → Done
-ending s cause parameters moved can blocks = record { state = leaves (kindOf cause) s cause parameters; cause = cause; moved = moved; can = can; blocks = blocks }
+ending s cause sense moved can blocks = record { state = leaves (kindOf cause) s sense; cause = cause; moved = moved; can = can; blocks = blocks }
 
 abbrev pub ended : State → ℕ → ℕ → ℕ → Done
 ended s moved can blocks = ending s 0 [] moved can blocks
@@ -160,10 +160,14 @@ module _ (dev : Device) where
 
 -- a refused command moves nothing
 abbrev pub refusal : State → ℕ → List ℕ → Done
-refusal s cause parameters = ending s cause parameters 0 0 0
+refusal s cause sense = ending s cause sense 0 0 0
+
+-- the sense of a cause that is given to this command
+abbrev pub senseGiven : ℕ → Ccw → List ℕ → List ℕ
+senseGiven cause c main = senseOf cause (shown cause (fetched c main locateLength))
 
 unfoldable pub refused : Ccw → State → List ℕ → List ℕ → ℕ → Out
-refused c s main store cause = out (refusal s cause (shown cause (fetched c main locateLength))) main store
+refused c s main store cause = out (refusal s cause (senseGiven cause c main)) main store
 
 -- "Each command that the unit sees, other than 03 and 04, zeroes the pending sense before its tests"
 unfoldable pub cleared : State → State

@@ -16,11 +16,9 @@ use Rattle.slices.specs.Parts.{part, put}
 use Rattle.model.specs.declared.ccw.Ccw.{Ccw}
 use Rattle.model.specs.declared.device.Device.{Device}
 use Rattle.model.specs.State.{Done}
-use Rattle.model.specs.Lent.{ccwAt, fetched}
-use Rattle.model.specs.Parameters.{locateLength}
+use Rattle.model.specs.Lent.{ccwAt}
 use Rattle.model.specs.Causes.{kindOf, causesOf}
-use Rattle.model.specs.Sense.{shown}
-use Rattle.model.specs.Commands.{leaves}
+use Rattle.model.specs.Commands.{leaves, senseGiven}
 use Rattle.model.specs.Answer.{unitStatus, channelBy, residual, answerSize, answerOf}
 use Rattle.model.specs.Chain.{System, stepAt, next, Called}
 use Rattle.model.specs.Exactly.{GivenExactly}
@@ -48,7 +46,7 @@ pub record RefusedThere (c : Ccw) (f : System) (w i : ℕ) (r : Called) : Type 0
   pub last : r .reached ≡ i + 1
   pub main : r .main ≡ f .main
   pub store : r .store ≡ f .store
-  pub unit : r .unit ≡ leaves (kindOf w) (f .state) w (shown w (fetched c (f .main) locateLength)) .unit
+  pub unit : r .unit ≡ leaves (kindOf w) (f .state) (senseGiven w c (f .main)) .unit
   pub answers : r .answers ≡ put (f .answers) (i * answerSize) (refusedAnswer c w)
 
 pub record EachReached (dev : Device) (chain : List ℕ) (y : System) (r : Called) : Type 0 where

@@ -23,13 +23,13 @@ use Rattle.model.specs.declared.kind.Kind.the-variants.{Accepted, ProgramCheck,
 use Rattle.model.specs.declared.record.Record.{Record}
 use Rattle.model.specs.State.{State}
 use Rattle.model.specs.Causes.{kindOf}
-use Rattle.model.specs.Sense.{senseOf}
 use Rattle.model.specs.Log.{withSense, withCounts}
 use Rattle.model.specs.Commands.{after, leaves}
 use Rattle.model.specs.Lent.{recordBytes, recordOf}
 use Rattle.model.proofs.kind.Kind.{the-type}
 use Rattle.model.proofs.Leaving.{leaves-ind}
 use Rattle.log.specs.Counts.{counted}
+use Rattle.sense_table.specs.Sensed.{senseBytes}
 use Rattle.unit_state.specs.declared.Left.{Left}
 use Rattle.unit_state.specs.Standing.{senseNow, unitOf, stateOf, stateLeft}
 
@@ -73,7 +73,7 @@ record-stored u d d₁ n m e =
     (ap recordOf f ∙ sense-put (set b 33 (u .«read_only»)) (u .sense) (length-set b 33 _ ∙ long) m)
     ∙ rw (ready, read-only) refl
 
-pub sense-made : (k : Kind) (u : Record) (l : Left) → k ≡ kindOf (l .cause) → k ≡ UnitCheck → stateLeft u l .unit .sense ≡ senseOf (l .cause) (l .parameters)
+pub sense-made : (k : Kind) (u : Record) (l : Left) → k ≡ kindOf (l .cause) → k ≡ UnitCheck → stateLeft u l .unit .sense ≡ senseBytes (l .sense)
 unfolding after withSense
 sense-made k u l e f = rw (← e, f) refl
 
@@ -82,7 +82,7 @@ pub sense-is : (k : Kind) (u : Record) (l : Left) → k ≡ kindOf (l .cause) �
 unfolding after stateOf unitOf counted withCounts withSense
 sense-is k u l e h = rw (← e) (go k h)
   where
-    go : (k : Kind) → OneOf (0 ∷ 1 ∷ []) (tagOf the-type k) → leaves k (stateOf u (l .state)) (l .cause) (l .parameters) .unit .sense ≡ senseNow (u .sense) (l .state .kept)
+    go : (k : Kind) → OneOf (0 ∷ 1 ∷ []) (tagOf the-type k) → leaves k (stateOf u (l .state)) (senseBytes (l .sense)) .unit .sense ≡ senseNow (u .sense) (l .state .kept)
     go Accepted h = refl
     go ProgramCheck h = refl
     go UnitCheck h = absurd (miss (0 ∷ 1 ∷ []) 2 tt h)
@@ -90,7 +90,7 @@ sense-is k u l e h = rw (← e) (go k h)
 pub unit-left : (u : Record) (l : Left) → stateLeft u l .unit ≡ counted (withSense u (stateLeft u l .unit .sense)) (l .state .counts)
 unfolding stateOf unitOf counted withCounts withSense after
 unit-left u l =
-    leaves-ind (λ (s : State). s .unit ≡ counted (withSense u (s .unit .sense)) (l .state .counts)) (kindOf (l .cause)) (stateOf u (l .state)) (l .cause) (l .parameters) refl refl refl
+    leaves-ind (λ (s : State). s .unit ≡ counted (withSense u (s .unit .sense)) (l .state .counts)) (kindOf (l .cause)) (stateOf u (l .state)) (senseBytes (l .sense)) refl refl refl
 
 -- `sense` is what the first 24 bytes came back as
 pub left-stored : (l : Left) (d sense : List ℕ) → length d ≡ 34 → length sense ≡ 24 → sense ≡ stateLeft (recordOf d) l .unit .sense

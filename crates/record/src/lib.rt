@@ -3,7 +3,6 @@
 use model::kind::Kind;
 use model::record::Record;
 use model::sizes;
-use sense_table::sense_of;
 use slices::clear;
 use slices::copy;
 use slices::put_at;
@@ -91,10 +90,10 @@ fn put_sense(l: Left, to: &mut [u8])
     requires { ⌜ length (now to) ≡ 24 ⌝ }
     ensures { λ _. ⌜ ((u : Record) → u .sense ≡ now (to .entry) → now (to .exit) ≡ stateLeft u l .unit .sense) ⌝ }
 {
-    let parameters = l.parameters;
+    let left = l.sense;
     match Kind::of(l.cause) {
         Kind::UnitCheck => {
-            let sense = sense_of(l.cause, parameters);
+            let sense = left.bytes();
             copy(&sense, to, sizes::SENSE);
         }
         Kind::Accepted | Kind::ProgramCheck => {

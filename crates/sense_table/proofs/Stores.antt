@@ -1,31 +1,34 @@
--- What the stores of `sense_of` leave is what the definition says.
+-- The table's rows, and the sense that is made of one, are the definition's.
 --     rowOf                      the definition's row of a cause, as the code's table holds it
 --     row-before, row-past       a cause below the table's, and one above them, has none
---     sense-stored               the row's three bytes, and then the parameters
+--     row-bytes                  the three bytes of a row
+--     sense-is                   the 24 bytes of what the code carries are the definition's
+--     none-showing               an accepted command leaves the sense of cause 0
 -- No contract cites this file.
-use Prim.Native.Nat.{ℕ, _≤_, _<_}
+use Prim.Native.Nat.{ℕ, _+_, _*_, _/_, _%_, _≤_, _<_}
 use mathlib.Core.Path.{_≡_, refl}
 use mathlib.Core.Bool.{Bool, true, false, _&&_}
 use mathlib.Core.List.{List, [], _∷_}
 use native.Mathlib.Omega.{arith}
-use native.Mathlib.Nat.{le-of-eq}
 use borrow.Author.Tests.{ltb-true, ne-eqb}
-use lib.ListN.{length, take, set, replicate}
-use lib.Seq.{take-all}
 use Rattle.slices.specs.Parts.{zeros, put}
 use Rattle.numbers.proofs.Tables.{same-upto}
 use Rattle.numbers.specs.Choice.{_<?_, pick}
 use Rattle.model.specs.Sense.{senseTable, rowIn, senseOf}
 use Rattle.model.specs.Sense as table
+use Rattle.model.specs.Parameters.{locateLength}
+use Rattle.model.proofs.Fields.{sense-row}
+use Rattle.numbers.specs.Big.{bytes3}
 use Rattle.numbers.proofs.Joined.{both-true}
 use Rattle.sense_table.specs.declared.SenseRow.{SenseRow}
+use Rattle.sense_table.specs.Sensed.{senseShowing, noSense, senseBytes}
 
 abbrev pub rowOf : ℕ → SenseRow
-rowOf cause = let d = rowIn senseTable cause in record { 0 = d .byte0; 1 = d .byte1; 2 = d .byte7 }
+rowOf cause = let d = rowIn senseTable cause in record { 0 = d .byte0 * 65536 + d .byte1 * 256 + d .byte7 }
 
-pub row-before : (cause : ℕ) → cause < 20 → record { 0 = 0; 1 = 0; 2 = 0 } ≡ rowOf cause
+pub row-before : (cause : ℕ) → cause < 20 → record { 0 = 0 } ≡ rowOf cause
 unfolding rowIn pick
-row-before cause h = same-upto (λ (k : ℕ). record { 0 = 0; 1 = 0; 2 = 0 }) rowOf 20 refl cause h
+row-before cause h = same-upto (λ (k : ℕ). record { 0 = 0 }) rowOf 20 refl cause h
 
 -- each cause of these rows is below n
 below : ℕ → List table.CauseRow → Bool
@@ -40,11 +43,27 @@ past (r ∷ rs) n cause b h =
     let low : r .cause < n = ltb-true _ _ (each .0) in
     rw (ne-eqb (r .cause) cause (λ e. omega (arith, e, low))) (past rs n cause (each .1) h)
 
-pub row-past : (cause : ℕ) → 44 < cause → record { 0 = 0; 1 = 0; 2 = 0 } ≡ rowOf cause
+pub row-past : (cause : ℕ) → 44 < cause → record { 0 = 0 } ≡ rowOf cause
 unfolding below
 row-past cause h = rw (past senseTable 45 cause refl h)
 
-pub sense-stored : (cause : ℕ) (parameters : List ℕ) (r : SenseRow) → r ≡ rowOf cause → length parameters ≡ 8
-    → put (put (replicate 24 0) 0 (take 8 (set (set (set (replicate 8 0) 0 (r .0)) 1 (r .1)) 7 (r .2)))) 8 (take 8 parameters) ≡ senseOf cause parameters
-unfolding senseOf put zeros
-sense-stored cause parameters r d n = rw (d, take-all 8 parameters (le-of-eq n))
+-- a row's number is its three bytes
+pub row-bytes : (cause : ℕ) → bytes3 (rowOf cause .0) ≡ (let d = rowIn senseTable cause in d .byte0 ∷ d .byte1 ∷ d .byte7 ∷ [])
+row-bytes cause = let r = sense-row cause in three _ _ _ (r .byte0) (r .byte1) (r .byte7)
+  where
+    three : (a b c : ℕ) → a < 256 → b < 256 → c < 256 → bytes3 (a * 65536 + b * 256 + c) ≡ a ∷ b ∷ c ∷ []
+    three a b c ha hb hc =
+        let n : ℕ = a * 65536 + b * 256 + c in
+        let e₀ : n / 65536 % 256 ≡ a = omega (arith, ha, hb, hc) in
+        let e₁ : n / 256 % 256 ≡ b = omega (arith, ha, hb, hc) in
+        let e₂ : n % 256 ≡ c = omega (arith, ha, hb, hc) in
+        rw (e₀, e₁, e₂)
+
+pub sense-is : (cause : ℕ) (parameters : List ℕ) → senseBytes (senseShowing cause parameters) ≡ senseOf cause parameters
+unfolding senseBytes senseShowing senseOf put zeros
+sense-is cause parameters = refl
+
+-- cause 0 shows nothing, and has no row
+pub none-showing : senseShowing 0 (zeros locateLength) ≡ noSense
+unfolding senseShowing rowIn pick zeros
+none-showing = refl

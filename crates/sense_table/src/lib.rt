@@ -1,38 +1,41 @@
-// The sense of a refusal, from one table indexed by cause; `sense_of` is the way in. docs/SENSE.md says why each row is what it is.
+// The sense of a refusal, from one table indexed by cause; `Sense::of` is the way in. docs/SENSE.md says why each row is what it is.
 use model::sizes;
+use numbers::bytes3;
 use slices::put_at;
 ghost use mathlib.Core.Path.{_≡_};
-ghost use Rattle.model.specs.Sense.{senseTable, rowIn, senseOf};
+ghost use Prim.Native.Nat.{_+_, _*_};
+ghost use Rattle.model.specs.Sense.{senseTable, rowIn};
+ghost use Rattle.sense_table.specs.Sensed.{senseShowing, noSense, senseBytes};
 
-// Sense bytes 0, 1 and 7.
-pub struct SenseRow(pub u8, pub u8, pub u8);
+// Sense bytes 0, 1 and 7, side by side in one number.
+pub struct SenseRow(pub u32);
 
-// Where the third byte stands in sense, and where the parameters of a LOCATE do.
+// Where the third of them stands in sense, and where the parameters of a LOCATE do.
 impl SenseRow {
     pub const FORMAT_MESSAGE: usize = 7;
 
     pub const PARAMETERS: usize = 8;
 }
 
-const NO_SENSE: SenseRow = SenseRow(0x00, 0x00, 0x00);
+const NO_SENSE: SenseRow = SenseRow(0x00_00_00);
 
-const INVALID_COMMAND: SenseRow = SenseRow(0x80, 0x00, 0x01);
+const INVALID_COMMAND: SenseRow = SenseRow(0x80_00_01);
 
-const INVALID_SEQUENCE: SenseRow = SenseRow(0x80, 0x00, 0x02);
+const INVALID_SEQUENCE: SenseRow = SenseRow(0x80_00_02);
 
-const SHORT_ARGUMENT: SenseRow = SenseRow(0x80, 0x00, 0x03);
+const SHORT_ARGUMENT: SenseRow = SenseRow(0x80_00_03);
 
-const INVALID_ARGUMENT: SenseRow = SenseRow(0x80, 0x00, 0x04);
+const INVALID_ARGUMENT: SenseRow = SenseRow(0x80_00_04);
 
-const SIZE_EXCEPTION: SenseRow = SenseRow(0x80, 0x40, 0x04);
+const SIZE_EXCEPTION: SenseRow = SenseRow(0x80_40_04);
 
-const FILE_PROTECTED: SenseRow = SenseRow(0x80, 0x04, 0x04);
+const FILE_PROTECTED: SenseRow = SenseRow(0x80_04_04);
 
-const WRITE_INHIBITED: SenseRow = SenseRow(0x80, 0x02, 0x00);
+const WRITE_INHIBITED: SenseRow = SenseRow(0x80_02_00);
 
-const OPERATION_INCOMPLETE: SenseRow = SenseRow(0x80, 0x01, 0x0C);
+const OPERATION_INCOMPLETE: SenseRow = SenseRow(0x80_01_0C);
 
-const NOT_ON_LINE: SenseRow = SenseRow(0x40, 0x00, 0x10);
+const NOT_ON_LINE: SenseRow = SenseRow(0x40_00_10);
 
 // The first cause of the table, and the last.
 const FIRST: u8 = 20;
@@ -70,7 +73,7 @@ const SENSE_ROWS: [SenseRow; 25] = [
 
 // The table is held against the definition here, once. A cause that is not a unit check has no sense.
 fn row_of(cause: u8) -> SenseRow
-    ensures { λ r. ⌜ r ≡ (let d = rowIn senseTable cause in record { 0 = d .byte0; 1 = d .byte1; 2 = d .byte7 }) ⌝ }
+    ensures { λ r. ⌜ r ≡ (let d = rowIn senseTable cause in record { 0 = d .byte0 * 65536 + d .byte1 * 256 + d .byte7 }) ⌝ }
 {
     if cause < FIRST {
         return NO_SENSE;
@@ -81,17 +84,48 @@ fn row_of(cause: u8) -> SenseRow
     SENSE_ROWS[(cause - FIRST) as usize]
 }
 
-// The 24 sense bytes of a cause, which shows these parameters.
-pub fn sense_of(cause: u8, parameters: [u8; sizes::LOCATE]) -> [u8; sizes::SENSE]
-    ensures { λ r. ⌜ r ≡ senseOf cause parameters ⌝ }
-{
-    let row = row_of(cause);
-    let mut head = [0u8; SenseRow::PARAMETERS];
-    head[0] = row.0;
-    head[1] = row.1;
-    head[SenseRow::FORMAT_MESSAGE] = row.2;
-    let mut sense = [0u8; sizes::SENSE];
-    put_at(&mut sense, 0, &head, SenseRow::PARAMETERS);
-    put_at(&mut sense, SenseRow::PARAMETERS, &parameters, sizes::LOCATE);
-    sense
+// The sense that a command leaves: bytes 0 to 7 by the table, 8 to 15 the parameters that its cause shows. The other eight are zeros.
+pub struct Sense {
+    pub head: [u8; SenseRow::PARAMETERS],
+    pub parameters: [u8; sizes::LOCATE],
+}
+
+impl Sense {
+    // Of a command that is accepted.
+    pub fn none() -> Sense
+        ensures { λ r. ⌜ r ≡ noSense ⌝ }
+    {
+        Sense {
+            head: [0u8; SenseRow::PARAMETERS],
+            parameters: [0u8; sizes::LOCATE],
+        }
+    }
+
+    // Of a cause that shows these parameters.
+    pub fn of(cause: u8, parameters: [u8; sizes::LOCATE]) -> Sense
+        ensures { λ r. ⌜ r ≡ senseShowing cause parameters ⌝ }
+    {
+        let row = row_of(cause);
+        let bytes = bytes3(row.0 as usize);
+        let mut head = [0u8; SenseRow::PARAMETERS];
+        head[0] = bytes[0];
+        head[1] = bytes[1];
+        head[SenseRow::FORMAT_MESSAGE] = bytes[2];
+        Sense {
+            head: head,
+            parameters: parameters,
+        }
+    }
+
+    // Its 24 bytes.
+    pub fn bytes(self) -> [u8; sizes::SENSE]
+        ensures { λ r. ⌜ r ≡ senseBytes self ⌝ }
+    {
+        let head = self.head;
+        let parameters = self.parameters;
+        let mut sense = [0u8; sizes::SENSE];
+        put_at(&mut sense, 0, &head, SenseRow::PARAMETERS);
+        put_at(&mut sense, SenseRow::PARAMETERS, &parameters, sizes::LOCATE);
+        sense
+    }
 }

@@ -28,7 +28,7 @@ use Rattle.unit_state.specs.declared.Running.{Running}
 use Rattle.unit_state.specs.Standing.{passedOn, unitOf, stateOf, Sound}
 use Rattle.unit_state.proofs.Units.{passed-on}
 use Rattle.endings.specs.declared.Ended.{Ended}
-use Rattle.endings.specs.Ending.{endOf, Ends}
+use Rattle.endings.specs.Ending.{acceptedEnd, refusedEnd, Ends}
 use Rattle.endings.proofs.Ends.{refused-ends, accepted-ends}
 use Rattle.unit.specs.Admission.{Received}
 
@@ -40,22 +40,22 @@ passed-out u s main store = rw (passed-on u s) refl
 -- the state is sound: that names the device and the store
 module _ {dev : Device} {u : Record} {c : Ccw} {s : Running} (main : List ℕ) {store : List ℕ} {r : Ended} (sound : Sound dev s store) where
   -- refused before its own table is read, by a cause that shows no parameters
-  stopped : (w : ℕ) → firstOf (channelCauses c main ++ unitCauses c (stateOf u s)) ≡ w → (w ≡ 0 → ⊥) → (w ≡ 39 → ⊥) → r ≡ endOf c s 0 0 0 w (zeros locateLength)
+  stopped : (w : ℕ) → firstOf (channelCauses c main ++ unitCauses c (stateOf u s)) ≡ w → (w ≡ 0 → ⊥) → (w ≡ 39 → ⊥) → r ≡ refusedEnd c s w (zeros locateLength)
       → Ends u c s r main store (step dev c (stateOf u s) main store)
   unfolding shown
   stopped w e n m f = rw (step-early dev c (stateOf u s) main store w e n) (refused-ends u c s main store w (zeros locateLength) r f (sym (pick-false _ _ _ (ne-eqb _ _ m))) n)
 
-  pub by-channel : {w : ℕ} → w ≡ firstOf (channelCauses c main) → (w ≡ 0 → ⊥) → r ≡ endOf c s 0 0 0 w (zeros locateLength) → Ends u c s r main store (step dev c (stateOf u s) main store)
+  pub by-channel : {w : ℕ} → w ≡ firstOf (channelCauses c main) → (w ≡ 0 → ⊥) → r ≡ refusedEnd c s w (zeros locateLength) → Ends u c s r main store (step dev c (stateOf u s) main store)
   unfolding channelCauses
   by-channel {w} e n = stopped w (early-channel dev c (stateOf u s) main store w (sym e) n) n (λ m. never-given 39 (channelCauses c main) refl (λ z. omega arith) (sym e ∙ m))
 
-  pub by-ready : firstOf (channelCauses c main) ≡ 0 → u .ready =? 0 && not (oneOf (SENSE ∷ SENSE-TYPE ∷ []) (c .command)) ≡ true → r ≡ endOf c s 0 0 0 44 (zeros locateLength)
+  pub by-ready : firstOf (channelCauses c main) ≡ 0 → u .ready =? 0 && not (oneOf (SENSE ∷ SENSE-TYPE ∷ []) (c .command)) ≡ true → r ≡ refusedEnd c s 44 (zeros locateLength)
       → Ends u c s r main store (step dev c (stateOf u s) main store)
   unfolding unitCauses stateOf unitOf counted withCounts withSense
   by-ready e b = stopped 44 (early-unit dev c (stateOf u s) main store 44 e (first-here _ _ b)) (λ z. omega arith) (λ z. omega arith)
 
   module _ (seen : Received c u main) where
-    pub by-list : oneOf commands (c .command) ≡ false → r ≡ endOf c s 0 0 0 43 (zeros locateLength) → Ends u c s r main store (step dev c (stateOf u s) main store)
+    pub by-list : oneOf commands (c .command) ≡ false → r ≡ refusedEnd c s 43 (zeros locateLength) → Ends u c s r main store (step dev c (stateOf u s) main store)
     unfolding unitCauses stateOf unitOf counted withCounts withSense
     by-list b = stopped 43 (early-unit dev c (stateOf u s) main store 43 (seen .channel) (first-later _ _ (seen .ready) ∙ first-here _ _ (ap not b))) (λ z. omega arith) (λ z. omega arith)
 
@@ -65,7 +65,7 @@ module _ {dev : Device} {u : Record} {c : Ccw} {s : Running} (main : List ℕ) {
     by-own e l h =
         rw (step-performed dev c (stateOf u s) main store (early-unit dev c (stateOf u s) main store 0 (seen .channel) (first-later _ _ (seen .ready) ∙ first-later _ _ (rw (e, l) refl) ∙ first-none))) h
 
-    pub no-operation-ends : c .command ≡ NO-OPERATION → r ≡ endOf c (passedOn s) 0 0 0 0 (zeros locateLength) → Ends u c s r main store (step dev c (stateOf u s) main store)
+    pub no-operation-ends : c .command ≡ NO-OPERATION → r ≡ acceptedEnd c (passedOn s) 0 0 0 → Ends u c s r main store (step dev c (stateOf u s) main store)
     unfolding oneOf
     no-operation-ends e f =
         by-own e refl

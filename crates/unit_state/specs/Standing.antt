@@ -28,6 +28,7 @@ use Rattle.model.specs.Log.{withSense}
 use Rattle.model.specs.Commands.{leaves}
 use Rattle.model.specs.Safe.{Usable, CcwFits, Safe}
 use Rattle.log.specs.Counts.{counted}
+use Rattle.sense_table.specs.Sensed.{senseBytes}
 use Rattle.unit_state.specs.declared.Running.{Running}
 use Rattle.unit_state.specs.declared.Left.{Left}
 
@@ -63,7 +64,7 @@ unfoldable pub stateOf : Record → Running → State
 stateOf u s = record { unit = unitOf u s; defined = s .defined; extent = s .extent; before = s .before; located = s .located }
 
 abbrev pub stateLeft : Record → Left → State
-stateLeft u l = leaves (kindOf (l .cause)) (stateOf u (l .state)) (l .cause) (l .parameters)
+stateLeft u l = leaves (kindOf (l .cause)) (stateOf u (l .state)) (senseBytes (l .sense))
 
 pub record Sound (dev : Device) (s : Running) (store : List ℕ) : Type 0 where
   pub device : Usable dev

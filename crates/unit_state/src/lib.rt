@@ -8,6 +8,7 @@ use model::record::Counts;
 use model::record::Record;
 use model::sizes;
 use model::state::Before;
+use sense_table::Sense;
 ghost use mathlib.Core.Path.{_≡_};
 ghost use Rattle.unit_state.specs.Standing.{started, wentOn, withExtent, withLocate, passedOn, senseNow};
 
@@ -140,10 +141,10 @@ pub fn carried(s: Running) -> Running
     }
 }
 
-// How a command leaves the unit, or a chain: the state, the cause by which it was refused, or 0, and the parameters that 39 shows.
+// How a command leaves the unit, or a chain: the state, the cause by which it was refused, or 0, and the sense of that cause.
 // A refused command has the state here that it found.
 pub struct Left {
     pub state: Running,
-    pub parameters: [u8; sizes::LOCATE],
+    pub sense: Sense,
     pub cause: u8,
 }

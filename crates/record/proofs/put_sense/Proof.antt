@@ -16,8 +16,8 @@ returns c =
     let made = copied .before .before .before in
     let asked = made .before .before .before in
     let start = asked .before .before .before in
-    let whole = put-copy 24 _ (made .sense-of .result) (start .pre) (search needs) in
-    λ u e. copied .copy .ensures ∙ whole ∙ made .sense-of .ensures ∙ sym (sense-made _ u _ (asked .of .ensures) (made .before .enum-told .given .1))
+    let whole = put-copy 24 _ (made .bytes .result) (start .pre) (search needs) in
+    λ u e. copied .copy .ensures ∙ whole ∙ made .bytes .ensures ∙ sym (sense-made _ u (start .args .l) (asked .of .ensures) (made .before .enum-told .given .1))
 
 -- no unit check, and the sense that was found is no more
 returns-2 : tie.Need-returns-2
@@ -41,7 +41,7 @@ pub put-sense-spec : {M : Type 1} → statement M
 put-sense-spec = tie.close (tie.spec
     (search needs)  -- of-requires
     (search needs)  -- enum-told
-    (search needs)  -- sense-of-requires
+    (search needs)  -- bytes-requires
     (search needs)  -- slice-aggregate-copy
     (search needs)  -- copy-requires
     (search needs)  -- clear-requires

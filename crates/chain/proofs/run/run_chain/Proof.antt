@@ -2,8 +2,8 @@
 use Prim.Native.Nat.{_-_}
 use mathlib.Core.Path.{refl, sym, _∙_}
 use native.Mathlib.Omega.{arith}
+use borrow.Author.Needs.{needs}
 use borrow.Author.Tests.{not-true, not-false}
-use Rattle.slices.specs.Parts.{zeros}
 use Rattle.unit_state.specs.Standing.{Sound}
 use Rattle.chain.proofs.Runs.{given-walks, Underway, underway-start, underway-next, underway-stop, underway-done, sound-same}
 use Rattle.chain.proofs.run.run_chain.Statement.{statement}
@@ -74,6 +74,9 @@ loop-again c =
     underway-next (a .d) (a .chain .now) (a .u) (a .main .now) (a .store .now) (a .answers .now) _ (a .s) (l .main) (l .store) (l .answers) (l .state) (l .i) (l .inv) _ _ _ _ (turn .loop-test .taken)
     (sound turn .some-block) (omega (arith, l .inv .count, first .pre .0)) (p .after) (sym (p .go) ∙ not-false _ (c .if1 .left)) (p .left)
 
+none-requires : tie.Need-none-requires Inv-loop μ-loop
+none-requires c κs = search needs
+
 same-length-4 : tie.Need-same-length-4 Inv-loop μ-loop
 same-length-4 c = omega arith
 
@@ -84,12 +87,13 @@ same-length-6 : tie.Need-same-length-6 Inv-loop μ-loop
 same-length-6 c = omega arith
 
 returns-2 : tie.Need-returns-2 Inv-loop μ-loop
-unfolding zeros
 returns-2 c =
-    let a = c .before .before .before .before .before .before .args in
-    let l = c .before .loop in
-    given-walks (a .d) (a .chain .now) (a .u) (a .main .now) (a .store .now) (a .answers .now) _ (a .s) (l .inv .count)
-    (underway-done (a .d) (a .chain .now) (a .u) (a .main .now) (a .store .now) (a .answers .now) _ (a .s) (l .main) (l .store) (l .answers) (l .state) (l .i) (l .inv) (c .loop-test .left))
+    let past = c .before in
+    let a = past .before .before .before .before .before .before .args in
+    let l = past .before .loop in
+    rw (c .none .ensures)
+    (given-walks (a .d) (a .chain .now) (a .u) (a .main .now) (a .store .now) (a .answers .now) _ (a .s) (l .inv .count)
+    (underway-done (a .d) (a .chain .now) (a .u) (a .main .now) (a .store .now) (a .answers .now) _ (a .s) (l .main) (l .store) (l .answers) (l .state) (l .i) (l .inv) (past .loop-test .left)))
 
 pub run-chain-spec : {M : Type 1} → statement M
 run-chain-spec =
@@ -106,6 +110,7 @@ run-chain-spec =
     returns
     loop-less
     loop-again
+    none-requires
     same-length-4
     same-length-5
     same-length-6
