@@ -17,7 +17,7 @@ use Rattle.numbers.specs.Choice.{_=?_, pick, oneOf}
 use Rattle.numbers.proofs.Choice.{pick-true, pick-false}
 use Rattle.numbers.proofs.Joined.{both-true}
 use Rattle.numbers.specs.Big.{bytes4}
-use Rattle.slices.specs.Parts.{put, zeros}
+use Rattle.slices.specs.Parts.{put}
 use Rattle.slices.proofs.Laws.{put-more, put-second}
 use Rattle.model.specs.declared.ccw.Ccw.{Ccw}
 use Rattle.model.specs.declared.device.Device.{Device}
@@ -33,7 +33,7 @@ use Rattle.model.specs.Causes.{callCauses, kindBy}
 use Rattle.model.specs.Sense.{shown}
 use Rattle.model.specs.Commands.{Out, step}
 use Rattle.model.specs.Answer.{answerSize, answerOf, channelBy, channelStatus, wrongLength, goesOn}
-use Rattle.model.specs.Chain.{System, stepAt, next, more, run, called, call, classA}
+use Rattle.model.specs.Chain.{System, stepAt, next, more, run, called, classA}
 use Rattle.model.specs.Safe.{Usable, CcwFits, Safe}
 use Rattle.model.proofs.Endings.{Callable}
 use Rattle.model.proofs.Fields.{verdict-small, step-blocks}

@@ -14,7 +14,6 @@ use mathlib.Core.Bool.{Bool, _&&_}
 use mathlib.Core.List.{List}
 use lib.ListN.{length}
 use Rattle.numbers.specs.Choice.{_=?_, pick}
-use Rattle.slices.specs.Parts.{zeros}
 use Rattle.model.specs.declared.ccw.Ccw.{Ccw}
 use Rattle.model.specs.declared.device.Device.{Device}
 use Rattle.model.specs.declared.record.Record.{Record}

@@ -2,11 +2,9 @@
 --     sentEnd   one that can move so many bytes, and leaves these counts
 -- Assumes nothing.
 use Prim.Native.Nat.{ℕ, min}
-use Rattle.slices.specs.Parts.{zeros}
 use Rattle.model.specs.declared.ccw.Ccw.{Ccw}
 use Rattle.model.specs.declared.record.Counts.{Counts}
 use Rattle.model.specs.declared.state.Before.the-variants.{Other}
-use Rattle.model.specs.Parameters.{locateLength}
 use Rattle.unit_state.specs.declared.Running.{Running}
 use Rattle.unit_state.specs.Standing.{wentOn}
 use Rattle.endings.specs.declared.Ended.{Ended}

@@ -2,17 +2,17 @@
 -- No contract cites this file.
 --     Placed, placed                       the located blocks lie in the store, and are not too many
 --     Transfer, reading, writing           a sound READ or WRITE
---     no-locate, other-locate, passed      its two tests: refused by 41, by 42, or let through
+--     transfer-refused, passed             by the cause that the code found: refused, or let through
 --     Passed, move-asks, done-asks         what that says of the blocks to move, and of the ending
 --     read-ends, write-ends, ipl-ends      the bytes that were moved, and the ending, are the command
-use Prim.Native.Nat.{ℕ, _+_, _*_, _≤_, _<_, min}
+use Prim.Native.Nat.{ℕ, _+_, _*_, _≤_, min}
 use mathlib.Core.Path.{_≡_, refl, sym, ap, _∙_}
 use mathlib.Core.Bool.{Bool, true, false, not, and-false}
 use mathlib.Core.List.{List, []}
 use lib.ListN.{length, take}
 use native.Mathlib.Nat.{mul-le-mul-left, mul-le-mul-right}
 use native.Mathlib.Omega.{arith}
-use borrow.Author.Tests.{not-false}
+use borrow.Author.Tests.{not-false, ne-eqb}
 use Rattle.numbers.specs.Choice.{_=?_, pick}
 use Rattle.numbers.proofs.Choice.{pick-both}
 use Rattle.slices.specs.Parts.{zeros}
@@ -32,7 +32,7 @@ use Rattle.model.specs.Causes.{a-locate, transferCauses, readIplCauses}
 use Rattle.model.specs.Log.{writtenCounted}
 use Rattle.model.specs.Safe.{Usable, CcwFits}
 use Rattle.model.specs.Commands.{Out, ended, decided, after, cleared, begun, readDone, read, writeDone, write, wholeDevice, iplDone, readIpl, performed}
-use Rattle.model.proofs.Verdicts.{first-here, first-later, first-none}
+use Rattle.model.proofs.Verdicts.{first-later, first-none, failed-all, never-given}
 use Rattle.model.proofs.Safety.{on-device}
 use Rattle.model.proofs.Lengths.{in-store}
 use Rattle.model.proofs.Steps.{performed-as}
@@ -90,20 +90,23 @@ pub record Passed (follows : ℕ → Bool) (dev : Device) (c : Ccw) (s : Running
   pub located : a-locate (s .before) ≡ true
   pub allowed : follows (s .located .operation) ≡ true
 
--- `b` and `f` are what the code asked: does a LOCATE stand directly before, and may the command follow it
-module _ {follows : ℕ → Bool} {dev : Device} {c : Ccw} {s : Running} {main store : List ℕ} (t : Transfer follows dev c s main store) {b : Bool} (before : b ≡ a-locate (s .before)) where
-  pub no-locate : {u : Record} {r : Ended} → not b ≡ true → r ≡ refusedEnd c s 41 (zeros locateLength) → Ends u c s r main store (performed dev c (stateOf u s) main store)
+-- `f` is what the code asked, whether the command may follow the operation; w is the cause that it then found
+module _ {follows : ℕ → Bool} {dev : Device} {c : Ccw} {s : Running} {main store : List ℕ} (t : Transfer follows dev c s main store) {f : Bool} (located : f ≡ follows (s .located .operation))
+    {w : ℕ} (found : (u : Record) → w ≡ firstOf (transferCauses (λ _. f) (stateOf u s))) where
+  given : (u : Record) → firstOf (transferCauses follows (stateOf u s)) ≡ w
   unfolding transferCauses stateOf
-  no-locate {u} {r} h e = refused-by u c s main store _ _ _ 41 r (t .is (stateOf u s)) e (first-here _ _ (ap not (sym before) ∙ h)) refl refl
+  given u = rw (← located) (sym (found u))
 
-  module _ {f : Bool} (located : f ≡ follows (s .located .operation)) (h : not b ≡ false) where
-    pub other-locate : {u : Record} {r : Ended} → not f ≡ true → r ≡ refusedEnd c s 42 (zeros locateLength) → Ends u c s r main store (performed dev c (stateOf u s) main store)
-    unfolding transferCauses stateOf
-    other-locate {u} {r} k e =
-        refused-by u c s main store _ _ _ 42 r (t .is (stateOf u s)) e (first-later _ _ (ap not (sym before) ∙ h) ∙ first-here _ _ (ap not (sym located) ∙ k)) refl refl
+  pub transfer-refused : {u : Record} {r : Ended} → (w ≡ 0 → ⊥) → r ≡ refusedEnd c s w (zeros locateLength) → Ends u c s r main store (performed dev c (stateOf u s) main store)
+  unfolding transferCauses
+  transfer-refused {u} {r} n e =
+      refused-by u c s main store _ _ _ w r (t .is (stateOf u s)) e (given u) (ne-eqb _ _ n) (ne-eqb _ _ (λ z. never-given 39 (transferCauses follows (stateOf u s)) refl (λ k. omega arith) (given u ∙ z)))
 
-    pub passed : not f ≡ false → Passed follows dev c s main store
-    passed k = record { transfer = t; located = sym before ∙ not-false _ h; allowed = sym located ∙ not-false _ k }
+  pub passed : w ≡ 0 → Passed follows dev c s main store
+  unfolding transferCauses stateOf
+  passed z =
+      let no = failed-all 0 (transferCauses follows (stateOf empty s)) refl (given empty ∙ z) in
+      record { transfer = t; located = not-false _ (no .0); allowed = not-false _ (no .1 .0) }
 
 -- no cause refuses it, and the code may move the blocks, and end
 

@@ -4,13 +4,12 @@
 -- Assumes nothing.
 use Prim.Native.Nat.{ℕ, _*_, min}
 use Rattle.numbers.specs.Choice.{_=?_, pick}
-use Rattle.slices.specs.Parts.{zeros}
 use Rattle.model.specs.declared.ccw.Ccw.{Ccw}
 use Rattle.model.specs.declared.device.Device.{Device}
 use Rattle.model.specs.declared.record.Counts.{Counts}
 use Rattle.model.specs.declared.state.Before.the-variants.{Other, ReadIpl}
 use Rattle.model.specs.Names.{write-check}
-use Rattle.model.specs.Parameters.{locateLength, address}
+use Rattle.model.specs.Parameters.{address}
 use Rattle.model.specs.Commands.{begun, wholeDevice}
 use Rattle.log.specs.Counts.{withRead, withWritten, withMovement}
 use Rattle.unit_state.specs.declared.Running.{Running}

@@ -27,7 +27,8 @@ ghost use Prim.Native.Nat.{_≤_, _<_};
 ghost use Rattle.model.specs.declared.record.Record.{Record};
 ghost use Rattle.model.specs.Names.{READ, WRITE, READ-IPL};
 ghost use Rattle.model.specs.Parameters.{reads, writes};
-ghost use Rattle.model.specs.Causes.{a-locate, none-or-ipl};
+ghost use Rattle.model.specs.Rules.{firstOf};
+ghost use Rattle.model.specs.Causes.{a-locate, none-or-ipl, transferCauses};
 ghost use Rattle.model.specs.Commands.{wholeDevice, performed};
 ghost use Rattle.model.specs.Safe.{Usable, CcwFits};
 ghost use Rattle.unit_state.specs.Standing.{stateOf, Sound, Handed};
@@ -76,6 +77,20 @@ fn is_write(code: u32) -> bool
     code == operation::WRITE_CHECK
 }
 
+// The cause that refuses a READ or a WRITE, or 0. `follows`: it may follow the operation that was located.
+fn transfer_cause(s: Running, follows: bool) -> u8
+    ensures { λ r. ⌜ ((u : Record) → r ≡ firstOf (transferCauses (λ _. follows) (stateOf u s))) ⌝ }
+{
+    let before = s.before;
+    if !after_locate(before) {
+        return 41;
+    }
+    if !follows {
+        return 42;
+    }
+    0
+}
+
 // What a transfer moves: from which block, how many bytes it can, and how many it does.
 pub struct Move {
     pub block: usize,
@@ -111,13 +126,10 @@ pub fn read(d: Device, c: Ccw, s: Running, main: &mut [u8], store: &[u8]) -> End
     requires { ⌜ Sound d s (now store) × Handed c (now main) × (c .command ≡ READ) ⌝ }
     ensures { λ r. ⌜ ((u : Record) → Ends u c s r (now (main .exit)) (now (store .entry)) (performed d c (stateOf u s) (now (main .entry)) (now (store .entry)))) ⌝ }
 {
-    let before = s.before;
     let l = s.located;
-    if !after_locate(before) {
-        return refuse(c, s, 41);
-    }
-    if !is_read(l.operation) {
-        return refuse(c, s, 42);
+    let cause = transfer_cause(s, is_read(l.operation));
+    if cause != 0 {
+        return refuse(c, s, cause);
     }
     let m = located_move(d, c, s, store);
     read_blocks(d, store, m.block, l.blocks, c, main, m.n);
@@ -148,13 +160,10 @@ pub fn write(d: Device, c: Ccw, s: Running, main: &[u8], store: &mut [u8]) -> En
     requires { ⌜ Sound d s (now store) × Handed c (now main) × (c .command ≡ WRITE) ⌝ }
     ensures { λ r. ⌜ ((u : Record) → Ends u c s r (now (main .entry)) (now (store .exit)) (performed d c (stateOf u s) (now (main .entry)) (now (store .entry)))) ⌝ }
 {
-    let before = s.before;
     let l = s.located;
-    if !after_locate(before) {
-        return refuse(c, s, 41);
-    }
-    if !is_write(l.operation) {
-        return refuse(c, s, 42);
+    let cause = transfer_cause(s, is_write(l.operation));
+    if cause != 0 {
+        return refuse(c, s, cause);
     }
     let m = located_move(d, c, s, store);
     store_blocks(d, store, m.block, l.blocks, c, main, m.n);

@@ -4,7 +4,7 @@
 --                                    so of one that its table decided
 --     refused-by, accepted-by, decided-by
 --                                    the same, whole: by a cause without parameters; accepted; by the parameters of DEFINE EXTENT or LOCATE
-use Prim.Native.Nat.{ℕ, _-_}
+use Prim.Native.Nat.{ℕ}
 use mathlib.Core.Path.{_≡_, refl, sym, ap, _∙_}
 use mathlib.Core.Bool.{false, _&&_}
 use mathlib.Core.List.{List}

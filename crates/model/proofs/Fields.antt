@@ -21,7 +21,7 @@ use Rattle.model.specs.declared.ccw.Ccw.{Ccw}
 use Rattle.model.specs.declared.record.Record.{Record}
 use Rattle.model.specs.declared.device.Device.{Device}
 use Rattle.model.specs.State.{State}
-use Rattle.numbers.specs.Choice.{_<?_, _=?_, pick}
+use Rattle.numbers.specs.Choice.{_<?_}
 use Rattle.model.specs.Rules.{Rule, firstOf}
 use Rattle.model.specs.Lent.{fetched, delivered, blockAt, blocksFrom, blocksInto}
 use Rattle.model.specs.Parameters.{locateLength}

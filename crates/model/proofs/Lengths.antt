@@ -20,7 +20,7 @@ use Rattle.model.specs.State.{State, Done}
 use Rattle.model.specs.Names.{NO-OPERATION}
 use Rattle.model.specs.Rules.{firstOf}
 use Rattle.model.specs.Lent.{ccwSize, ccwAt, delivered, blockStart, blockCount, blocksInto}
-use Rattle.model.specs.Parameters.{address, writes}
+use Rattle.model.specs.Parameters.{writes}
 use Rattle.model.specs.Causes.{callCauses}
 use Rattle.model.specs.Commands.{Out, out, noOperation, defineExtent, locate, sent, sense, senseType, readLog, read, write, readIpl, refused, refusal, seen, after, step, defineDone, iplDone, locateDone, readDone, writeDone}
 use Rattle.model.specs.Answer.{answerSize, answerOf}

@@ -17,7 +17,7 @@ use Rattle.model.specs.declared.state.Before.{Before}
 use Rattle.model.specs.declared.device.Device.{Device}
 use Rattle.model.specs.State.{State}
 use Rattle.numbers.specs.Choice.{_<?_}
-use Rattle.model.specs.Lent.{blockCount, fetched}
+use Rattle.model.specs.Lent.{blockCount}
 use Rattle.model.specs.Parameters.{extentLength, extentIn, locateLength, locatedIn, processed, address, outside}
 use Rattle.model.specs.Causes.{extentCauses, defineExtentCauses, permissionCauses, locationCauses, locateCauses, transferCauses, a-locate, kindOf}
 use Rattle.model.specs.Commands.{after, extentSet, locateSet, noOperation, defineExtent, locate, sent, sense, senseType, readLog, read, write, wholeDevice, readIpl, senseGiven, refused, refusal, seen, step, defineDone, iplDone, locateDone, readDone, writeDone}

@@ -1,7 +1,7 @@
 -- `read_blocks` meets its contract. Before block i the data area has the bytes of the blocks before it; `n - from` falls.
 -- Assumes nothing.
-use Prim.Native.Nat.{ℕ, _+_, _-_, _*_, _≤_, _<_}
-use mathlib.Core.Path.{_≡_, refl, sym, _∙_}
+use Prim.Native.Nat.{_+_, _-_, _*_, _≤_, _<_}
+use mathlib.Core.Path.{_≡_, refl, sym}
 use lib.ListN.{length, take}
 use native.Mathlib.Nat.{zero-mul}
 use native.Mathlib.Omega.{arith}

@@ -1,21 +1,19 @@
--- `write` meets its contract. Both refusals are lines of its table; past them a sound state places the blocks, which are moved. Assumes nothing.
+-- `write` meets its contract, as `read` does. Assumes nothing.
 use native.Mathlib.Omega.{arith}
 use borrow.Author.Needs.{needs}
 use Rattle.model.specs.Parameters.{writes}
-use Rattle.command_transfer.proofs.Transfers.{placed, writing, Passed, no-locate, other-locate, passed, move-asks, done-asks, write-ends}
+use Rattle.command_transfer.proofs.Transfers.{placed, writing, Passed, transfer-refused, passed, move-asks, done-asks, write-ends}
 use Rattle.command_transfer.proofs.write.Statement.{statement}
 use Rattle.command_transfer.proofs.write.Tie as tie
 
--- past both tests
-through : (c : tie.Else2) → let a = c .before .before .before .before .before .before .before .args in Passed writes (a .d) (a .c) (a .s) (a .main .now) (a .store .now)
-through c =
+returns : tie.Need-returns
+returns c u =
     let tested = c .before .before in
-    passed (writing (tested .before .before .before .before .before .pre)) (tested .before .after-locate .ensures) (c .before .is-write .ensures) (tested .if1 .left) (c .if2 .left)
+    transfer-refused (writing (tested .before .before .before .before .before .pre)) (tested .before .is-write .ensures) (tested .transfer-cause .ensures) (c .before .if1 .taken) (c .refuse .ensures)
 
-returns-2 : tie.Need-returns-2
-returns-2 c u =
-    let tested = c .before .before .before in
-    other-locate (writing (tested .before .before .before .before .before .pre)) (tested .before .after-locate .ensures) (c .before .before .is-write .ensures) (tested .if1 .left) (c .before .if2 .taken) (c .refuse2 .ensures)
+-- no cause was found
+through : (c : tie.Else1) → let a = c .before .before .before .before .before .before .args in Passed writes (a .d) (a .c) (a .s) (a .main .now) (a .store .now)
+through c = passed (writing (c .before .before .before .before .before .before .pre)) (c .before .before .is-write .ensures) (c .before .transfer-cause .ensures) (c .if1 .left)
 
 write-done-requires : tie.Need-write-done-requires
 write-done-requires c κs =
@@ -24,22 +22,20 @@ write-done-requires c κs =
     let k = done-asks p (m .located-move .ensures) in
     (k .0, k .1, k .2, omega (arith, placed _ _ _ (p .transfer .sound) (p .located) .few))
 
-returns-3 : tie.Need-returns-3
-returns-3 c u =
+returns-2 : tie.Need-returns-2
+returns-2 c u =
     let stored = c .before .before .before in
     let m = stored .before .before in
-    write-ends (through (m .before .before)) (m .before .before .before .before .before .before .before .before .before .pre .2) (c .write-done .ensures) (m .located-move .ensures) (stored .store-blocks .ensures)
+    write-ends (through (m .before .before)) (m .before .before .before .before .before .before .before .before .pre .2) (c .write-done .ensures) (m .located-move .ensures) (stored .store-blocks .ensures)
 
 pub write-spec : {M : Type 1} → statement M
 write-spec = tie.close (tie.spec
-    (search needs)  -- after-locate-requires
-    (search needs)  -- refuse-requires
-    (λ c u. no-locate (writing (c .before .before .before .before .before .before .pre)) (c .before .before .after-locate .ensures) (c .before .if1 .taken) (c .refuse .ensures))  -- returns
     (search needs)  -- is-write-requires
-    (search needs)  -- refuse-requires-2
-    returns-2
+    (search needs)  -- transfer-cause-requires
+    (search needs)  -- refuse-requires
+    returns
     (λ c κs. let p = through (c .before) in (p .transfer .sound, p .located))  -- located-move-requires
     (λ c κs. move-asks (through (c .before .before .before)) (c .before .located-move .ensures) .0)  -- store-blocks-requires
     write-done-requires
     (search needs)  -- same-length
-    returns-3)
+    returns-2)
