@@ -7,7 +7,7 @@
 --     read-ends, write-ends, ipl-ends      the bytes that were moved, and the ending, are the command
 use Prim.Native.Nat.{ℕ, _+_, _*_, _≤_, min}
 use mathlib.Core.Path.{_≡_, refl, sym, ap, _∙_}
-use mathlib.Core.Bool.{Bool, true, false, not, and-false}
+use mathlib.Core.Bool.{Bool, true, not, and-false}
 use mathlib.Core.List.{List, []}
 use lib.ListN.{length, take}
 use native.Mathlib.Nat.{mul-le-mul-left, mul-le-mul-right}

@@ -1,6 +1,6 @@
 -- `text_digits::add_decimal` meets its contract: one digit, or the digits before the last and then the last. The measure is the number.
 -- Assumes nothing.
-use Prim.Native.Nat.{ℕ, _≤_}
+use Prim.Native.Nat.{ℕ, _≤_, _<_}
 use native.Mathlib.Omega.{arith}
 use mathlib.Core.Path.{_≡_}
 use borrow.Author.Needs.{needs}
