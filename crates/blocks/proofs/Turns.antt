@@ -20,8 +20,9 @@ use Rattle.slices.proofs.Laws.{length-part, pad-cleared}
 use Rattle.model.specs.declared.ccw.Ccw.{Ccw}
 use Rattle.model.specs.declared.device.Device.{Device}
 use Rattle.model.specs.Lent.{fetched, delivered, blockStart, blockAt, blocksFrom, blocksInto}
+use Rattle.model.specs.Safe.{InArea}
 use Rattle.model.proofs.Blocks.{blocks-from-part, take-blocks-more, blocks-into-last}
-use Rattle.storage.specs.Area.{fetchedFrom, deliveredFrom, InArea}
+use Rattle.storage.specs.Area.{fetchedFrom, deliveredFrom}
 use Rattle.storage.proofs.Laws.{delivered-more, fetched-block}
 use Rattle.blocks.specs.Places.{InStore}
 
@@ -54,7 +55,7 @@ pub one-of : {dev : Device} {store now : List ℕ} {block blocks i : ℕ} → In
 one-of {dev} {store} {now} {block} {blocks} {i} s h e =
     let g : block + i + 1 ≤ block + blocks = omega (arith, h) in
     let r : (block + i + 1) * dev .block ≤ length now = omega (arith, e, s .inside, mul-le-mul-right (dev .block) g) in
-    (record { device = s .device; inside = r }, omega (arith, r, mul-le-mul-left (block + i + 1) (s .device .some-size)))
+    (record { device = s .device; some = omega arith; inside = r }, omega (arith, r, mul-le-mul-left (block + i + 1) (s .device .some-size)))
 
 module _ (dev : Device) (c : Ccw) (main store : List ℕ) (block : ℕ) where
   -- `now` is main storage before block i, `after` behind it

@@ -1,5 +1,5 @@
 -- What the functions that move blocks ask for.
---     InStore   so many blocks from one on lie in the store of a device that may be used
+--     InStore   so many blocks from one on, one at least, lie in the store of a device that may be used
 --     Movable   n bytes can move between such blocks and a data area, from a place in it on
 -- Assumes nothing.
 use Prim.Native.Nat.{ℕ, _+_, _*_, _≤_}
@@ -7,11 +7,11 @@ use mathlib.Core.List.{List}
 use lib.ListN.{length}
 use Rattle.model.specs.declared.ccw.Ccw.{Ccw}
 use Rattle.model.specs.declared.device.Device.{Device}
-use Rattle.model.specs.Safe.{Usable}
-use Rattle.storage.specs.Area.{InArea}
+use Rattle.model.specs.Safe.{Usable, InArea}
 
 pub record InStore (dev : Device) (store : List ℕ) (block blocks : ℕ) : Type 0 where
   pub device : Usable dev
+  pub some : 1 ≤ blocks
   pub inside : (block + blocks) * dev .block ≤ length store
 
 pub record Movable (dev : Device) (store : List ℕ) (block blocks : ℕ) (c : Ccw) (main : List ℕ) (from n : ℕ) : Type 0 where

@@ -12,8 +12,8 @@ ghost use lib.ListN.{length, take};
 ghost use Rattle.slices.specs.Parts.{put, pad};
 ghost use Rattle.model.specs.Lent.{fetched, delivered, blockCount, blockStart, blockAt, blocksFrom, blocksInto};
 ghost use Rattle.model.specs.Commands.{begun};
-ghost use Rattle.model.specs.Safe.{Usable};
-ghost use Rattle.storage.specs.Area.{fetchedFrom, deliveredFrom, InArea};
+ghost use Rattle.model.specs.Safe.{Usable, InArea};
+ghost use Rattle.storage.specs.Area.{fetchedFrom, deliveredFrom};
 ghost use Rattle.blocks.specs.Places.{InStore, Movable};
 
 // The blocks of a device.
@@ -99,7 +99,7 @@ pub fn read_blocks(
     main: &mut [u8],
     n: usize,
 )
-    requires { ⌜ Movable d (now store) block blocks c (now main) 0 n × (1 ≤ blocks) ⌝ }
+    requires { ⌜ Movable d (now store) block blocks c (now main) 0 n ⌝ }
     ensures { λ _. ⌜ now (main .exit) ≡ delivered c (now (main .entry)) (take n (blocksFrom d (now (store .entry)) block blocks)) ⌝ }
 {
     let mut i = 0;

@@ -33,7 +33,7 @@ use Rattle.model.specs.Causes.{callCauses, kindBy}
 use Rattle.model.specs.Sense.{shown}
 use Rattle.model.specs.Commands.{Out, step}
 use Rattle.model.specs.Answer.{answerSize, answerOf, channelBy, channelStatus, wrongLength, goesOn}
-use Rattle.model.specs.Chain.{System, stepAt, next, more, run, called, classA}
+use Rattle.model.specs.Chain.{System, stepAt, next, more, run, called}
 use Rattle.model.specs.Safe.{Usable, CcwFits, Safe}
 use Rattle.model.proofs.Endings.{Callable}
 use Rattle.model.proofs.Fields.{verdict-small, step-blocks}
@@ -226,23 +226,20 @@ unfolding blockCount
 sound-same dev u s t store store′ e r h =
     record { device = r .device; some-block = rw e (r .some-block); few-blocks = rw e (r .few-blocks); safe = λ v. safe-any v t u _ h }
 
-pub class-a-usable : Usable classA
-class-a-usable = record { some-size = omega arith; small-size = omega arith }
-
 -- what the call's tests leave known of the device
-pub callable-sound : (chain main store answers : List ℕ) (u : Record) → Callable classA chain main store answers → Sound classA (started u) store
-callable-sound chain main store answers u k =
+pub callable-sound : (dev : Device) (chain main store answers : List ℕ) (u : Record) → Usable dev → Callable dev chain main store answers → Sound dev (started u) store
+callable-sound dev chain main store answers u usable k =
     record {
-      device = class-a-usable;
-      some-block = some-block classA store (k .stored) (k .even);
+      device = usable;
+      some-block = some-block dev store (k .stored) (k .even);
       few-blocks = k .held;
       safe = λ v. safe-any v (started u) u _ (rw (started-state u) (safe-start u _));
     }
 
 -- and the run that they allow is the call
-pub allowed : (chain main store answers main′ store′ answers′ : List ℕ) (u : Record) (dev : Device) (t : Running) (w : Walked) → dev ≡ classA → t ≡ started u → firstOf (callCauses classA chain main store answers) ≡ 0
-    → Walks dev chain u t (systemOf u t main store answers 0) w main′ store′ answers′ → Allowed u chain main store answers w main′ store′ answers′
-allowed chain main store answers main′ store′ answers′ u dev t w d e n f = record {
-  after = ap (called 0) (rw (d, e, started-state u) at (f .after)) ∙ sym (call-ran classA chain main store u answers n);
-  left = rw (d, e, started-state u) at (f .left);
+pub allowed : (dev : Device) (chain main store answers main′ store′ answers′ : List ℕ) (u : Record) (t : Running) (w : Walked) → t ≡ started u → firstOf (callCauses dev chain main store answers) ≡ 0
+    → Walks dev chain u t (systemOf u t main store answers 0) w main′ store′ answers′ → Allowed dev u chain main store answers w main′ store′ answers′
+allowed dev chain main store answers main′ store′ answers′ u t w e n f = record {
+  after = ap (called 0) (rw (e, started-state u) at (f .after)) ∙ sym (call-ran dev chain main store u answers n);
+  left = rw (e, started-state u) at (f .left);
 }

@@ -23,7 +23,7 @@ use Rattle.model.specs.Lent.{ccwSize, ccwAt, fetched}
 use Rattle.model.specs.Parameters.{locateLength}
 use Rattle.model.specs.Sense.{shown}
 use Rattle.model.specs.Commands.{Out}
-use Rattle.model.specs.Chain.{System, system, stepAt, next, more, run, start, Called, called, classA, call}
+use Rattle.model.specs.Chain.{System, system, stepAt, next, more, run, start, Called, called, callOf}
 use Rattle.sense_table.specs.Sensed.{senseShowing, noSense}
 use Rattle.unit_state.specs.declared.Running.{Running}
 use Rattle.unit_state.specs.declared.Left.{Left}
@@ -71,8 +71,8 @@ module _ (u : Record) where
   abbrev pub systemLeft : Left → List ℕ → List ℕ → List ℕ → ℕ → System
   systemLeft l = system (stateLeft u l)
 
-abbrev pub leftCall : List ℕ → List ℕ → List ℕ → Record → List ℕ → Left
-leftCall chain main store u answers = leftBy classA chain (started u) (system (start u) main store answers 0)
+abbrev pub leftCall : Device → List ℕ → List ℕ → List ℕ → Record → List ℕ → Left
+leftCall dev chain main store u answers = leftBy dev chain (started u) (system (start u) main store answers 0)
 
 -- in a chain that found record u, of a turn or a run that found s carried, which stands for system y, and leaves these buffers
 
@@ -86,9 +86,9 @@ pub record Walks (dev : Device) (chain : List ℕ) (u : Record) (s : Running) (y
   pub left : w .left ≡ leftBy dev chain s y
 
 -- of a call that was lent main storage, store and answers, and leaves them primed
-pub record Allowed (u : Record) (chain main store answers : List ℕ) (w : Walked) (main′ store′ answers′ : List ℕ) : Type 0 where
-  pub after : called 0 (systemLeft u (w .left) main′ store′ answers′ (w .reached)) ≡ call chain main store u answers
-  pub left : w .left ≡ leftCall chain main store u answers
+pub record Allowed (dev : Device) (u : Record) (chain main store answers : List ℕ) (w : Walked) (main′ store′ answers′ : List ℕ) : Type 0 where
+  pub after : called 0 (systemLeft u (w .left) main′ store′ answers′ (w .reached)) ≡ callOf dev chain main store u answers
+  pub left : w .left ≡ leftCall dev chain main store u answers
 
 abbrev pub calledWith : Returned → List ℕ → List ℕ → List ℕ → Called
 calledWith r main store answers = record { cause = r .cause; reached = r .reached; unit = r .unit; main = main; store = store; answers = answers }

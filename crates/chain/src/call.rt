@@ -4,43 +4,29 @@ use crate::run::Walked;
 use crate::run::run_chain;
 use model::device::Device;
 use model::record::Record;
-use model::sizes;
 use record::record_left;
 use unit_state::start;
 ghost use mathlib.Core.Path.{_≡_};
 ghost use Rattle.model.specs.Rules.{firstOf};
 ghost use Rattle.model.specs.Causes.{callCauses};
-ghost use Rattle.model.specs.Chain.{call, classA};
+ghost use Rattle.model.specs.Chain.{callOf};
+ghost use Rattle.model.specs.Safe.{Usable};
 ghost use Rattle.chain.specs.Walk.{Allowed, calledWith};
-
-fn class_a() -> Device
-    ensures { λ r. ⌜ r ≡ classA ⌝ }
-{
-    Device {
-        block: sizes::BLOCK,
-    }
-}
-
-// The cause that refuses a call, or 0.
-pub fn cause_of(chain: &[u8], main: &[u8], store: &[u8], answers: &[u8]) -> u8
-    ensures { λ r. ⌜ r ≡ firstOf (callCauses classA (now (chain .entry)) (now (main .entry)) (now (store .entry)) (now (answers .entry))) ⌝ }
-{
-    call_cause(class_a(), chain, main, store, answers)
-}
 
 // A call that no cause refuses.
 pub fn run_allowed(
+    d: Device,
     u: Record,
     chain: &[u8],
     main: &mut [u8],
     store: &mut [u8],
     answers: &mut [u8],
 ) -> Walked
-    requires { ⌜ firstOf (callCauses classA (now chain) (now main) (now store) (now answers)) ≡ 0 ⌝ }
-    ensures { λ r. ⌜ Allowed u (now (chain .entry)) (now (main .entry)) (now (store .entry)) (now (answers .entry))
+    requires { ⌜ Usable d × (firstOf (callCauses d (now chain) (now main) (now store) (now answers)) ≡ 0) ⌝ }
+    ensures { λ r. ⌜ Allowed d u (now (chain .entry)) (now (main .entry)) (now (store .entry)) (now (answers .entry))
         r (now (main .exit)) (now (store .exit)) (now (answers .exit)) ⌝ }
 {
-    run_chain(class_a(), chain, u, start(u), main, store, answers)
+    run_chain(d, chain, u, start(u), main, store, answers)
 }
 
 // What a call gives by value.
@@ -51,16 +37,18 @@ pub struct Returned {
 }
 
 pub fn call(
+    d: Device,
     u: Record,
     chain: &[u8],
     main: &mut [u8],
     store: &mut [u8],
     answers: &mut [u8],
 ) -> Returned
+    requires { ⌜ Usable d ⌝ }
     ensures { λ r. ⌜ calledWith r (now (main .exit)) (now (store .exit)) (now (answers .exit))
-        ≡ call (now (chain .entry)) (now (main .entry)) (now (store .entry)) u (now (answers .entry)) ⌝ }
+        ≡ callOf d (now (chain .entry)) (now (main .entry)) (now (store .entry)) u (now (answers .entry)) ⌝ }
 {
-    let cause = cause_of(chain, main, store, answers);
+    let cause = call_cause(d, chain, main, store, answers);
     if cause != 0 {
         return Returned {
             cause: cause,
@@ -68,7 +56,7 @@ pub fn call(
             unit: u,
         };
     }
-    let walked = run_allowed(u, chain, main, store, answers);
+    let walked = run_allowed(d, u, chain, main, store, answers);
     let l = walked.left;
     Returned {
         cause: 0,

@@ -6,7 +6,7 @@ ghost use lib.Dec.{ltb, eqb};
 ghost use lib.ListN.{length};
 ghost use Rattle.model.specs.Rules.{firstOf};
 ghost use Rattle.model.specs.Lent.{ccwSize};
-ghost use Rattle.model.specs.Causes.{allChained, callCauses};
+ghost use Rattle.model.specs.Causes.{allChained, badChain, callCauses};
 ghost use Rattle.model.specs.Safe.{Usable};
 use channel::ccw::ccw_at;
 use model::device::Device;
@@ -14,7 +14,7 @@ use model::sizes;
 
 // No CCW, more than 32, or a part of one.
 fn chain_wrong(len: usize) -> bool
-    ensures { λ r. ⌜ r ≡ (eqb len 0 || ltb 256 len || not (eqb (len % ccwSize) 0)) ⌝ }
+    ensures { λ r. ⌜ r ≡ badChain len ⌝ }
 {
     if len == 0 {
         return true;

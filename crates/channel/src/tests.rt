@@ -2,13 +2,11 @@
 use model::ccw::Ccw;
 use model::command;
 ghost use mathlib.Core.Path.{_≡_};
-ghost use mathlib.Core.Bool.{not, _&&_};
 ghost use mathlib.Core.List.{[], _∷_};
-ghost use Prim.Native.Nat.{_+_, _%_};
-ghost use Rattle.numbers.specs.Choice.{_<?_, _=?_, oneOf};
-ghost use Rattle.model.specs.Names.{NO-OPERATION};
+ghost use Prim.Native.Nat.{_%_};
+ghost use Rattle.numbers.specs.Choice.{oneOf};
 ghost use Rattle.model.specs.Rules.{firstOf};
-ghost use Rattle.model.specs.Causes.{channelCauses};
+ghost use Rattle.model.specs.Causes.{leavesStorage, channelCauses};
 ghost use Rattle.model.specs.Safe.{CcwFits};
 
 // The low four bits are 0 or 8: to the channel, no command.
@@ -21,7 +19,7 @@ fn no_command(command: u8) -> bool
 // The data area leaves main storage. NO-OPERATION has none.
 fn leaves_storage(c: Ccw, held: usize) -> bool
     requires { ⌜ CcwFits c ⌝ }
-    ensures { λ r. ⌜ r ≡ (not (c .command =? NO-OPERATION) && held <? c .address + c .count) ⌝ }
+    ensures { λ r. ⌜ r ≡ leavesStorage c held ⌝ }
 {
     if c.command == command::NO_OPERATION {
         return false;

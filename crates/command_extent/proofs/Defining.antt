@@ -41,7 +41,7 @@ module _ (u : Record) (dev : Device) (c : Ccw) (s : Running) (main store : List 
       → Ends u c s r main store (performed dev c (stateOf u s) main store)
   unfolding definedBy defineExtentCauses extentCauses stateOf defineExtent shown
   define-ends blocks p r e b f h k l n =
-      let bytes = fetched-array c main extentLength p f (omega (arith, h .area, l)) in
+      let bytes = fetched-array c main extentLength p f (omega (arith, h .area .inside, l)) in
       let verdict : firstOf (defineExtentCauses dev (blockCount dev store) c (stateOf u s) (fetched c main extentLength)) ≡ firstOf (extentCauses dev (blockCount dev store) (fetched c main extentLength))
       = first-later _ _ (le-ltb _ _ l) ∙ first-later _ _ n in
       decided-by u c s main store _ _ _ (withExtent s (s .counts) (extentIn (fetched c main extentLength)) Other) extentLength (zeros locateLength) r

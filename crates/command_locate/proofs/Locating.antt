@@ -32,7 +32,7 @@ use Rattle.endings.proofs.Ends.{decided-by}
 use Rattle.command_locate.specs.Answers.{locatedBy}
 
 pub eight-fetched : (c : Ccw) (main p : List ℕ) → Handed c main → locateLength ≤ c .count → p ≡ fetched c main locateLength → length p ≡ locateLength
-eight-fetched c main p h l e = ap length e ∙ fetched-length c main _ (omega (arith, h .area, l))
+eight-fetched c main p h l e = ap length e ∙ fetched-length c main _ (omega (arith, h .area .inside, l))
 
 module _ (u : Record) (dev : Device) (c : Ccw) (s : Running) (main store : List ℕ) where
   located-out : (p : List ℕ) → out (ended (stateOf u (withLocate s (withMovement (s .counts)) (locatedIn p))) locateLength locateLength 0) main store ≡ out (locateDone (cleared (stateOf u s)) p) main store

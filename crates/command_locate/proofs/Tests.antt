@@ -10,7 +10,7 @@ use native.Mathlib.Omega.{arith}
 use borrow.Author.Tests.{ltb-true, eq-eqb, ne-eqb}
 use Rattle.numbers.proofs.Tables.{values, same-upto}
 use Rattle.numbers.specs.Choice.{oneOf}
-use Rattle.model.specs.Parameters.{operations, writes, forbidden}
+use Rattle.model.specs.Parameters.{operations, forbidden}
 use Rattle.model.proofs.Steps.{one-of, none-of}
 
 -- eight bytes reach as far
@@ -29,11 +29,6 @@ operation-low o e =
 -- cause 34, its last test
 pub count-last : (o n : ℕ) → (n ≡ 0 → ⊥) → o ≡ 4 → not (eqb n 1) ≡ (eqb n 0 || (eqb o 4 && not (eqb n 1)))
 count-last o n h e = rw (ne-eqb n 0 h, eq-eqb o 4 e)
-
--- cause 38, its last test
-pub inhibited-last : (r o : ℕ) → (r ≡ 0 → ⊥) → (o ≡ 1 → ⊥) → (o ≡ 5 → ⊥) → eqb o 4 ≡ (not (eqb r 0) && (writes o || eqb o 4))
-unfolding oneOf
-inhibited-last r o h a b = rw (ne-eqb r 0 h, ne-eqb o 1 a, ne-eqb o 5 b)
 
 abbrev listed : ℕ → ℕ → Bool
 listed k o = oneOf (getD forbidden k []) o

@@ -171,10 +171,7 @@ fn write_inhibited(read_only: u8, code: u32) -> bool
     if read_only == 0 {
         return false;
     }
-    if code == operation::WRITE_DATA {
-        return true;
-    }
-    if code == operation::WRITE_CHECK {
+    if operation::writes(code) {
         return true;
     }
     code == operation::FORMAT

@@ -115,17 +115,15 @@ unfolding transferCauses stateOf
 no-cause u p = first-later _ _ (ap not (p .located)) ∙ first-later _ _ (ap not (p .allowed)) ∙ first-none
 
 module _ {follows : ℕ → Bool} {dev : Device} {c : Ccw} {s : Running} {main store : List ℕ} (p : Passed follows dev c s main store) {m : Move} (e : m ≡ moveOf dev c s) where
-  pub move-asks : Movable dev store (m .block) (s .located .blocks) c main 0 (m .n) × (1 ≤ s .located .blocks)
+  pub move-asks : Movable dev store (m .block) (s .located .blocks) c main 0 (m .n)
   move-asks =
       let sound = p .transfer .sound in
-      let lies = placed dev s store sound (p .located) in (
-        record {
-          stored = record { device = sound .device; inside = rw e (lies .room) };
-          bytes = rw e (omega arith);
-          area = record { inside = rw e (omega (arith, p .transfer .handed .area)) };
-        },
-        lies .some,
-      )
+      let lies = placed dev s store sound (p .located) in
+      record {
+        stored = record { device = sound .device; some = lies .some; inside = rw e (lies .room) };
+        bytes = rw e (omega arith);
+        area = record { inside = rw e (omega (arith, p .transfer .handed .area .inside)) };
+      }
 
   pub done-asks : Usable dev × CcwFits c × (m .n ≤ c .count)
   done-asks = (p .transfer .sound .device, p .transfer .handed .ccw, rw e (omega arith))
@@ -153,10 +151,10 @@ module _ (u : Record) (dev : Device) (s : Running) where
   write-state n can =
       rw (went-on u s (writtenBy (s .located .operation) (s .located .blocks) (s .counts)) Other, written-unit (s .located), located-same) refl
 
-  ipl-state : (n blocks : ℕ) → ended (stateOf u (withExtent s (withMovement (withRead 1 (s .counts))) (wholeDevice dev blocks) ReadIpl)) n (dev .block) 1 ≡ iplDone dev (cleared (stateOf u s)) n blocks
+  ipl-state : (n blocks : ℕ) → ended (stateOf u (withExtent s (withMovement (withRead 1 (s .counts))) (wholeDevice blocks) ReadIpl)) n (dev .block) 1 ≡ iplDone dev (cleared (stateOf u s)) n blocks
   unfolding iplDone
   ipl-state n blocks =
-      rw (with-extent u s (withMovement (withRead 1 (s .counts))) (wholeDevice dev blocks) ReadIpl, movement-counted (cleared (stateOf u s) .unit) (withRead 1 (s .counts)), read-counted (cleared (stateOf u s) .unit) (s .counts) 1, same-counts u s) refl
+      rw (with-extent u s (withMovement (withRead 1 (s .counts))) (wholeDevice blocks) ReadIpl, movement-counted (cleared (stateOf u s) .unit) (withRead 1 (s .counts)), read-counted (cleared (stateOf u s) .unit) (s .counts) 1, same-counts u s) refl
 
 -- a transfer is what its code moved, and its ending
 
@@ -180,6 +178,6 @@ module _ (u : Record) (dev : Device) (c : Ccw) (s : Running) (main store : List 
       → blocks ≡ blockCount dev store → main′ ≡ delivered c main (take n (blocksFrom dev store 0 1)) → Ends u c s r main′ store (performed dev c (stateOf u s) main store)
   unfolding readIpl
   ipl-ends n blocks main′ k v e f b d =
-      accepted-by u c s main store _ _ _ (withExtent s (withMovement (withRead 1 (s .counts))) (wholeDevice dev (blockCount dev store)) ReadIpl) (min (c .count) (dev .block)) (dev .block) 1 r main′ store
+      accepted-by u c s main store _ _ _ (withExtent s (withMovement (withRead 1 (s .counts))) (wholeDevice (blockCount dev store)) ReadIpl) (min (c .count) (dev .block)) (dev .block) 1 r main′ store
       (performed-as dev c (stateOf u s) main store .read-ipl k) v (rw (f, b) at e) (rw k (sym (and-false (s .kept))))
       (rw (ipl-state u dev s (min (c .count) (dev .block)) (blockCount dev store), d, f) refl)

@@ -2,15 +2,14 @@
 --     moveOf                       what a READ or WRITE moves: by the LOCATE before it, the address rule and its count
 --     readEnd, writeEnd, iplEnd    READ, WRITE and READ IPL, once their bytes are moved
 -- Assumes nothing.
-use Prim.Native.Nat.{ℕ, _*_, min}
+use Prim.Native.Nat.{ℕ, min}
 use Rattle.numbers.specs.Choice.{_=?_, pick}
 use Rattle.model.specs.declared.ccw.Ccw.{Ccw}
 use Rattle.model.specs.declared.device.Device.{Device}
 use Rattle.model.specs.declared.record.Counts.{Counts}
 use Rattle.model.specs.declared.state.Before.the-variants.{Other, ReadIpl}
 use Rattle.model.specs.Names.{write-check}
-use Rattle.model.specs.Parameters.{address}
-use Rattle.model.specs.Commands.{begun, wholeDevice}
+use Rattle.model.specs.Commands.{begun, firstBlock, canMove, wholeDevice}
 use Rattle.log.specs.Counts.{withRead, withWritten, withMovement}
 use Rattle.unit_state.specs.declared.Running.{Running}
 use Rattle.unit_state.specs.Standing.{wentOn, withExtent}
@@ -20,9 +19,9 @@ use Rattle.command_transfer.specs.declared.Move.{Move}
 
 abbrev pub moveOf : Device → Ccw → Running → Move
 moveOf dev c s = record {
-  block = address (s .extent) (s .located .displacement);
-  can = s .located .blocks * dev .block;
-  n = min (c .count) (s .located .blocks * dev .block);
+  block = firstBlock (s .extent) (s .located);
+  can = canMove dev (s .located);
+  n = min (c .count) (canMove dev (s .located));
 }
 
 abbrev pub readEnd : Device → Ccw → Running → Move → Ended
@@ -36,4 +35,4 @@ abbrev pub writeEnd : Device → Ccw → Running → Move → Ended
 writeEnd dev c s m = acceptedEnd c (wentOn s (writtenBy (s .located .operation) (s .located .blocks) (s .counts)) Other) (m .n) (m .can) (begun dev (m .n))
 
 abbrev pub iplEnd : Device → Ccw → Running → ℕ → ℕ → Ended
-iplEnd dev c s n blocks = acceptedEnd c (withExtent s (withMovement (withRead 1 (s .counts))) (wholeDevice dev blocks) ReadIpl) n (dev .block) 1
+iplEnd dev c s n blocks = acceptedEnd c (withExtent s (withMovement (withRead 1 (s .counts))) (wholeDevice blocks) ReadIpl) n (dev .block) 1

@@ -26,7 +26,6 @@ ghost use mathlib.Core.Bool.{true};
 ghost use Prim.Native.Nat.{_≤_, _<_};
 ghost use Rattle.model.specs.declared.record.Record.{Record};
 ghost use Rattle.model.specs.Names.{READ, WRITE, READ-IPL};
-ghost use Rattle.model.specs.Parameters.{reads, writes};
 ghost use Rattle.model.specs.Rules.{firstOf};
 ghost use Rattle.model.specs.Causes.{a-locate, none-or-ipl, transferCauses};
 ghost use Rattle.model.specs.Commands.{wholeDevice, performed};
@@ -57,24 +56,6 @@ fn none_or_ipl(before: Before) -> bool
         Before::Locate => false,
         Before::Other => false,
     }
-}
-
-fn is_read(code: u32) -> bool
-    ensures { λ r. ⌜ r ≡ reads code ⌝ }
-{
-    if code == operation::READ_DATA {
-        return true;
-    }
-    code == operation::READ_REPLICATED
-}
-
-fn is_write(code: u32) -> bool
-    ensures { λ r. ⌜ r ≡ writes code ⌝ }
-{
-    if code == operation::WRITE_DATA {
-        return true;
-    }
-    code == operation::WRITE_CHECK
 }
 
 // The cause that refuses a READ or a WRITE, or 0. `follows`: it may follow the operation that was located.
@@ -127,7 +108,7 @@ pub fn read(d: Device, c: Ccw, s: Running, main: &mut [u8], store: &[u8]) -> End
     ensures { λ r. ⌜ ((u : Record) → Ends u c s r (now (main .exit)) (now (store .entry)) (performed d c (stateOf u s) (now (main .entry)) (now (store .entry)))) ⌝ }
 {
     let l = s.located;
-    let cause = transfer_cause(s, is_read(l.operation));
+    let cause = transfer_cause(s, operation::reads(l.operation));
     if cause != 0 {
         return refuse(c, s, cause);
     }
@@ -161,7 +142,7 @@ pub fn write(d: Device, c: Ccw, s: Running, main: &[u8], store: &mut [u8]) -> En
     ensures { λ r. ⌜ ((u : Record) → Ends u c s r (now (main .entry)) (now (store .exit)) (performed d c (stateOf u s) (now (main .entry)) (now (store .entry)))) ⌝ }
 {
     let l = s.located;
-    let cause = transfer_cause(s, is_write(l.operation));
+    let cause = transfer_cause(s, operation::writes(l.operation));
     if cause != 0 {
         return refuse(c, s, cause);
     }
@@ -171,9 +152,9 @@ pub fn write(d: Device, c: Ccw, s: Running, main: &[u8], store: &mut [u8]) -> En
 }
 
 // The extent that READ IPL sets, over a device of so many blocks.
-fn whole_device(d: Device, blocks: usize) -> Extent
+fn whole_device(blocks: usize) -> Extent
     requires { ⌜ (1 ≤ blocks) × (blocks ≤ 131072) ⌝ }
-    ensures { λ r. ⌜ r ≡ wholeDevice d blocks ⌝ }
+    ensures { λ r. ⌜ r ≡ wholeDevice blocks ⌝ }
 {
     Extent {
         mask: 0,
@@ -188,7 +169,7 @@ fn ipl_done(d: Device, c: Ccw, s: Running, n: usize, blocks: usize) -> Ended
     ensures { λ r. ⌜ r ≡ iplEnd d c s n blocks ⌝ }
 {
     let k = movement_counted(read_counted(1, s.counts));
-    let t = extent_set(s, k, whole_device(d, blocks), Before::ReadIpl);
+    let t = extent_set(s, k, whole_device(blocks), Before::ReadIpl);
     accept(c, t, n, d.block, 1)
 }
 

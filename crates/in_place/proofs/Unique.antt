@@ -41,7 +41,7 @@ told-unique P true false f g = sym (g .1 (f .0 refl))
 told-unique P false true f g = f .1 (g .0 refl)
 told-unique P false false f g = refl
 
--- the ending of a command: the state, the cause, the parameters beside it, the answer, the wrong length, and both storages
+-- the ending of a command: the state, the cause, its sense, the answer, the wrong length, and both storages
 pub record SameEnding (d e : Ended) (main main′ store store′ : List ℕ) : Type 0 where
   pub ended : d ≡ e
   pub main-same : main ≡ main′
@@ -88,8 +88,8 @@ module _ (u : Record) (v w : Walked) (m₁ s₁ a₁ m₂ s₂ a₂ : List ℕ) 
   pub walks-unique : (dev : Device) (chain : List ℕ) (s : Running) (y : System) → Walks dev chain u s y v m₁ s₁ a₁ → Walks dev chain u s y w m₂ s₂ a₂ → SameWalk v w m₁ m₂ s₁ s₂ a₁ a₂
   walks-unique dev chain s y p q = same-walk (ap (called 0) (p .after ∙ sym (q .after))) (p .left ∙ sym (q .left))
 
-  pub allowed-unique : (chain main store answers : List ℕ) → Allowed u chain main store answers v m₁ s₁ a₁ → Allowed u chain main store answers w m₂ s₂ a₂ → SameWalk v w m₁ m₂ s₁ s₂ a₁ a₂
-  allowed-unique chain main store answers p q = same-walk (p .after ∙ sym (q .after)) (p .left ∙ sym (q .left))
+  pub allowed-unique : (dev : Device) (chain main store answers : List ℕ) → Allowed dev u chain main store answers v m₁ s₁ a₁ → Allowed dev u chain main store answers w m₂ s₂ a₂ → SameWalk v w m₁ m₂ s₁ s₂ a₁ a₂
+  allowed-unique dev chain main store answers p q = same-walk (p .after ∙ sym (q .after)) (p .left ∙ sym (q .left))
 
 pub record SameRun (v w : Ran) (storage storage′ store store′ answers answers′ : List ℕ) : Type 0 where
   pub unit-same : v .unit ≡ w .unit

@@ -1,6 +1,7 @@
 // The run over a unit record that is lent and updated in place: `run`; `run_lending` lends it a record of its own. Neither has a
 // requires; a result is 256 times the cause plus the commands reached.
 use chain::call::call;
+use model::device::Device;
 use model::record::Record;
 ghost use mathlib.Core.Path.{_≡_};
 ghost use Prim.Native.Nat.{_≤_};
@@ -32,7 +33,7 @@ fn run_core(
     ensures { λ w. ⌜ ByValue r (now (chain .entry)) (now (storage .entry)) (now (store .entry)) (now (answers .entry))
         w (now (storage .exit)) (now (store .exit)) (now (answers .exit)) ⌝ }
 {
-    let called = call(r, chain, storage, store, answers);
+    let called = call(Device::class_a(), r, chain, storage, store, answers);
     let left = called.unit;
     Ran {
         unit: left,

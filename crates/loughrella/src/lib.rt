@@ -1,7 +1,8 @@
 // What C calls: a chain run, and a unit record set up. include/loughrella.h says it to a C programmer. Neither has a
 // requires: any slices get the result, and are left with the bytes, that the definition says.
-use chain::call::cause_of;
 use chain::call::run_allowed;
+use chain::causes::call_cause;
+use model::device::Device;
 use model::sizes;
 use record::new_record;
 use record::pack;
@@ -22,14 +23,15 @@ pub extern "C" fn loughrella_run(
     ensures { λ r. ⌜ record { result = r; main = now (storage .exit); store = now (store .exit); unit = now (unit .exit); answers = now (answers .exit) }
         ≡ hostCall (now (chain .entry)) (now (storage .entry)) (now (store .entry)) (now (unit .entry)) (now (answers .entry)) ⌝ }
 {
-    let cause = cause_of(chain, storage, store, answers);
+    let d = Device::class_a();
+    let cause = call_cause(d, chain, storage, store, answers);
     if cause != 0 {
         return cause as u32 * 256;
     }
     if unit.len() != sizes::RECORD {
         return 6 * 256;
     }
-    let ran = run_allowed(unpack(unit), chain, storage, store, answers);
+    let ran = run_allowed(d, unpack(unit), chain, storage, store, answers);
     let left = ran.left;
     pack_left(left, unit);
     ran.reached as u32

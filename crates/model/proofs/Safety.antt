@@ -1,5 +1,6 @@
 -- A chain's state stays on the device: the extent that stands is on it, and so are the blocks of the LOCATE before.
 --     DefineOk, LocateOk   what is known of the parameters where no cause of the table holds
+--     class-a-usable       blocks of 512 bytes may be
 --     step-safe            a command leaves a safe state
 --     on-device            the blocks of the LOCATE before are blocks of the device
 -- No contract cites this file.
@@ -21,13 +22,17 @@ use Rattle.model.specs.Lent.{blockCount}
 use Rattle.model.specs.Parameters.{extentLength, extentIn, locateLength, locatedIn, processed, address, outside}
 use Rattle.model.specs.Causes.{extentCauses, defineExtentCauses, permissionCauses, locationCauses, locateCauses, transferCauses, a-locate, kindOf}
 use Rattle.model.specs.Commands.{after, extentSet, locateSet, noOperation, defineExtent, locate, sent, sense, senseType, readLog, read, write, wholeDevice, readIpl, senseGiven, refused, refusal, seen, step, defineDone, iplDone, locateDone, readDone, writeDone}
-use Rattle.model.specs.Safe.{OnDevice, InExtent, Safe}
+use Rattle.model.specs.Safe.{Usable, OnDevice, InExtent, Safe}
 use Rattle.model.specs.Chain.{start}
 use Rattle.model.specs.Exactly.{Failed}
 use Rattle.numbers.proofs.Choice.{pick-ind}
 use Rattle.numbers.proofs.Joined.{both-false, either-false}
+use Rattle.model.specs.Chain.{classA}
 use Rattle.model.proofs.Leaving.{leaves-ind}
 use Rattle.model.proofs.Steps.{Cases, step-cases}
+
+pub class-a-usable : Usable classA
+class-a-usable = record { some-size = omega arith; small-size = omega arith }
 
 -- parameters that no cause refuses
 

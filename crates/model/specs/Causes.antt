@@ -46,9 +46,13 @@ unfoldable pub allChained : List ℕ → ℕ → Bool
 allChained chain zero = true
 allChained chain (suc n) = flag (ccwAt chain n) chain-command && allChained chain n
 
+-- no CCW, more than 32, or a part of one
+abbrev pub badChain : ℕ → Bool
+badChain held = held =? 0 || 256 <? held || not (held % ccwSize =? 0)
+
 unfoldable pub callCauses : Device → List ℕ → List ℕ → List ℕ → List ℕ → List Rule
 callCauses dev chain main store answers =
-    1 when (length chain =? 0 || 256 <? length chain || not (length chain % ccwSize =? 0))
+    1 when badChain (length chain)
     ∷ 2 when (length store =? 0 || not (length store % dev .block =? 0) || 131072 <? blockCount dev store)
     ∷ 3 when (16777216 <? length main)
     ∷ 4 when (length answers <? length chain)
@@ -60,12 +64,20 @@ hostCauses dev chain main store unit answers = callCauses dev chain main store a
 
 -- the channel: 10 to 13 are program checks, and the unit does not see the command
 
+-- a flag other than 40 and 20
+abbrev pub otherFlags : ℕ → Bool
+otherFlags flags = anyBit flags (0 ∷ 3 ∷ 4 ∷ 5 ∷ 6 ∷ 7 ∷ [])
+
+-- the data area leaves a main storage of so many bytes; NO-OPERATION has none
+abbrev pub leavesStorage : Ccw → ℕ → Bool
+leavesStorage c held = not (c .command =? NO-OPERATION) && held <? c .address + c .count
+
 unfoldable pub channelCauses : Ccw → List ℕ → List Rule
 channelCauses c main =
     13 when oneOf (0 ∷ 8 ∷ []) (c .command % 16)
-    ∷ 10 when anyBit (c .flags .0) (0 ∷ 3 ∷ 4 ∷ 5 ∷ 6 ∷ 7 ∷ [])
+    ∷ 10 when otherFlags (c .flags .0)
     ∷ 11 when (c .count =? 0)
-    ∷ 12 when (not (c .command =? NO-OPERATION) && length main <? c .address + c .count)
+    ∷ 12 when leavesStorage c (length main)
     ∷ []
 
 -- the unit
@@ -73,9 +85,13 @@ channelCauses c main =
 abbrev pub commands : List ℕ
 commands = NO-OPERATION ∷ DEFINE-EXTENT ∷ LOCATE ∷ READ ∷ WRITE ∷ READ-IPL ∷ SENSE ∷ SENSE-TYPE ∷ READ-LOG ∷ []
 
+-- a unit that is not ready answers SENSE and SENSE TYPE alone
+abbrev pub notReady : ℕ → ℕ → Bool
+notReady ready command = ready =? 0 && not (oneOf (SENSE ∷ SENSE-TYPE ∷ []) command)
+
 unfoldable pub unitCauses : Ccw → State → List Rule
 unitCauses c s =
-    44 when (s .unit .ready =? 0 && not (oneOf (SENSE ∷ SENSE-TYPE ∷ []) (c .command)))
+    44 when notReady (s .unit .ready) (c .command)
     ∷ 43 when not (oneOf commands (c .command))
     ∷ []
 

@@ -24,7 +24,7 @@ use Rattle.model.specs.declared.record.Record.{Record}
 use Rattle.model.specs.declared.state.Before.{Before}
 use Rattle.model.specs.declared.state.Before.the-variants.{ReadIpl, Locate, Other}
 use Rattle.model.specs.State.{State, Done}
-use Rattle.model.specs.Names.{NO-OPERATION, DEFINE-EXTENT, LOCATE, READ, WRITE, READ-IPL, SENSE, SENSE-TYPE, write-check}
+use Rattle.model.specs.Names.{NO-OPERATION, DEFINE-EXTENT, LOCATE, READ, WRITE, READ-IPL, SENSE, SENSE-TYPE, write-check, senseSize}
 use Rattle.model.specs.Rules.{firstOf}
 use Rattle.model.specs.Lent.{fetched, delivered, blockCount, blocksFrom, blocksInto}
 use Rattle.model.specs.Parameters.{extentLength, extentIn, locateLength, locatedIn, address}
@@ -90,15 +90,23 @@ sent c s main store can bytes u =
 
 -- "SENSE moves up to 24 bytes, then all sense is zero"
 unfoldable pub sense : Ccw → State → List ℕ → List ℕ → Out
-sense c s main store = sent c s main store 24 (s .unit .sense) (withSense (s .unit) (zeros 24))
+sense c s main store = sent c s main store senseSize (s .unit .sense) (withSense (s .unit) (zeros senseSize))
 
 unfoldable pub senseType : Ccw → State → List ℕ → List ℕ → Out
 senseType c s main store = sent c s main store 7 (0xFF ∷ 0x00 ∷ 0x97 ∷ 0x01 ∷ 0x05 ∷ 0x12 ∷ 0x01 ∷ []) (s .unit)
 
 unfoldable pub readLog : Ccw → State → List ℕ → List ℕ → Out
-readLog c s main store = sent c s main store 24 (logOf (s .unit)) (logReset (s .unit))
+readLog c s main store = sent c s main store senseSize (logOf (s .unit)) (logReset (s .unit))
 
 -- the commands that move blocks: of `can` bytes that they can move, n
+
+-- 002, 2.1.4: the first block that a LOCATE accesses
+abbrev pub firstBlock : Extent → Located → ℕ
+firstBlock e l = address e (l .displacement)
+
+-- the extent that READ IPL sets: "offset 0, first 0, last the final block, mask 00"
+unfoldable pub wholeDevice : ℕ → Extent
+wholeDevice blocks = record { mask = 0; offset = record { 0 = 0 }; first = record { 0 = 0 }; last = record { 0 = blocks - 1 } }
 
 module _ (dev : Device) where
   unfoldable pub begun : ℕ → ℕ
@@ -108,14 +116,17 @@ module _ (dev : Device) where
   unfoldable pub readDone : State → ℕ → ℕ → Done
   readDone s n can = ended (after s (readCounted (begun n) (s .unit)) Other) n can (begun n)
 
+  -- what a READ or a WRITE can move, by the LOCATE before it
+  abbrev pub canMove : Located → ℕ
+  canMove l = l .blocks * dev .block
+
   -- "READ moves up to 512 times the block count into the data area"
   unfoldable pub read : Ccw → State → List ℕ → List ℕ → Out
   read c s main store =
       let l = s .located in
-      let can = l .blocks * dev .block in
-      let n = min (c .count) can in
-      let bytes = blocksFrom dev store (address (s .extent) (l .displacement)) (l .blocks) in
-      out (readDone s n can) (delivered c main (take n bytes)) store
+      let n = min (c .count) (canMove l) in
+      let bytes = blocksFrom dev store (firstBlock (s .extent) l) (l .blocks) in
+      out (readDone s n (canMove l)) (delivered c main (take n bytes)) store
 
   -- after operation 5 all blocks of the LOCATE are written with check (002, 5.8.1)
   unfoldable pub writeDone : State → ℕ → ℕ → Done
@@ -128,15 +139,10 @@ module _ (dev : Device) where
   unfoldable pub write : Ccw → State → List ℕ → List ℕ → Out
   write c s main store =
       let l = s .located in
-      let can = l .blocks * dev .block in
-      let n = min (c .count) can in
-      out (writeDone s n can) main (blocksInto dev store (address (s .extent) (l .displacement)) (l .blocks) (fetched c main n))
+      let n = min (c .count) (canMove l) in
+      out (writeDone s n (canMove l)) main (blocksInto dev store (firstBlock (s .extent) l) (l .blocks) (fetched c main n))
 
-  -- READ IPL "counts one block read and one access movement, and sets an extent over the whole device: offset 0, first 0, last
-  -- the final block, mask 00"
-  unfoldable pub wholeDevice : ℕ → Extent
-  wholeDevice blocks = record { mask = 0; offset = record { 0 = 0 }; first = record { 0 = 0 }; last = record { 0 = blocks - 1 } }
-
+  -- READ IPL "counts one block read and one access movement, and sets an extent over the whole device"
   unfoldable pub iplDone : State → ℕ → ℕ → Done
   iplDone s n blocks = ended (extentSet s (movementCounted (readCounted 1 (s .unit))) (wholeDevice blocks) ReadIpl) n (dev .block) 1
 
@@ -171,7 +177,7 @@ refused c s main store cause = out (refusal s cause (senseGiven cause c main)) m
 
 -- "Each command that the unit sees, other than 03 and 04, zeroes the pending sense before its tests"
 unfoldable pub cleared : State → State
-cleared s = after s (withSense (s .unit) (zeros 24)) (s .before)
+cleared s = after s (withSense (s .unit) (zeros senseSize)) (s .before)
 
 unfoldable pub seen : Ccw → State → State
 seen c s = after s (pick (oneOf (NO-OPERATION ∷ SENSE ∷ []) (c .command)) (s .unit) (cleared s .unit)) (s .before)

@@ -20,6 +20,7 @@ use Rattle.slices.specs.Parts.{part, put, pad, zeros}
 use Rattle.model.specs.declared.ccw.Ccw.{Ccw}
 use Rattle.model.specs.declared.record.Record.{Record}
 use Rattle.model.specs.declared.device.Device.{Device}
+use Rattle.model.specs.Names.{senseSize}
 
 -- Chain: 8 bytes per CCW. Byte 0 command, 1-3 data address, 4 flags, 5 ignored, 6-7 count
 abbrev pub ccwSize : ℕ
@@ -70,8 +71,8 @@ recordBytes u = u .sense ++ u .«blocks_read» ++ u .«blocks_written» ++ u .mo
 
 unfoldable pub recordOf : List ℕ → Record
 recordOf l = record {
-  sense = part l 0 24;
-  «blocks_read» = part l 24 3;
+  sense = part l 0 senseSize;
+  «blocks_read» = part l senseSize 3;
   «blocks_written» = part l 27 3;
   movements = part l 30 2;
   ready = getD l 32 0;
@@ -81,4 +82,4 @@ recordOf l = record {
 -- "sense and counts with zero": the record of a new unit
 unfoldable pub newRecord : ℕ → ℕ → Record
 newRecord ready readOnly = record
-    { sense = zeros 24; «blocks_read» = zeros 3; «blocks_written» = zeros 3; movements = zeros 2; ready = ready; «read_only» = readOnly }
+    { sense = zeros senseSize; «blocks_read» = zeros 3; «blocks_written» = zeros 3; movements = zeros 2; ready = ready; «read_only» = readOnly }

@@ -10,7 +10,7 @@ use mathlib.Core.List.{List, [], _∷_}
 use Rattle.numbers.specs.Big.{be2, be3, bytes2, bytes3}
 use Rattle.slices.specs.Parts.{zeros, put}
 use Rattle.model.specs.declared.record.Record.{Record}
-use Rattle.model.specs.Names.{environmental-at, format-message-at, blocks-read-at, blocks-written-at, movements-at}
+use Rattle.model.specs.Names.{environmental-at, format-message-at, blocks-read-at, blocks-written-at, movements-at, senseSize}
 
 unfoldable pub withSense : Record → List ℕ → Record
 withSense u sense = record { sense = sense; «blocks_read» = u .«blocks_read»; «blocks_written» = u .«blocks_written»; movements = u .movements; ready = u .ready; «read_only» = u .«read_only» }
@@ -36,7 +36,7 @@ movementCounted u = withCounts u (u .«blocks_read») (u .«blocks_written») (a
 -- 002, 5.1: byte 2 bit 3, Environmental Data Present; byte 7: format 6, message 8
 unfoldable pub logOf : Record → List ℕ
 logOf u =
-    let headed = put (put (zeros 24) environmental-at (0x10 ∷ [])) format-message-at (0x68 ∷ []) in
+    let headed = put (put (zeros senseSize) environmental-at (0x10 ∷ [])) format-message-at (0x68 ∷ []) in
     put (put (put headed blocks-read-at (u .«blocks_read»)) blocks-written-at (u .«blocks_written»)) movements-at (u .movements)
 
 unfoldable pub logReset : Record → Record

@@ -4,7 +4,7 @@
 --     unit status         01, Causes; 002, 1.9
 --     channel status      01, Causes and Commands that are accepted
 --     operations          01, LOCATE; 002, 2.1.4
---     places in sense     002, 5.1 and 5.2
+--     sense, its places   01, What is lent; 002, 5.1 and 5.2
 --     places in the log   01, READ AND RESET BUFFERED LOG; 002, 5.8.1
 -- Assumes nothing.
 use Prim.Native.Nat.{ℕ}
@@ -79,7 +79,10 @@ read-data = 6
 abbrev pub read-replicated : ℕ
 read-replicated = 2
 
--- places in the 24 sense bytes
+-- the bytes of sense, and of the log; places in sense
+
+abbrev pub senseSize : ℕ
+senseSize = 24
 
 abbrev pub environmental-at : ℕ
 environmental-at = 2
@@ -90,7 +93,7 @@ format-message-at = 7
 abbrev pub parameters-at : ℕ
 parameters-at = 8
 
--- places in the 24 bytes of the log
+-- places in the log
 
 abbrev pub blocks-read-at : ℕ
 blocks-read-at = 8

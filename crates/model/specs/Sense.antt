@@ -6,7 +6,7 @@
 use Prim.Native.Nat.{ℕ}
 use mathlib.Core.List.{List, [], _∷_}
 use Rattle.slices.specs.Parts.{zeros, put}
-use Rattle.model.specs.Names.{format-message-at, parameters-at}
+use Rattle.model.specs.Names.{format-message-at, parameters-at, senseSize}
 use Rattle.numbers.specs.Choice.{_=?_, pick}
 use Rattle.model.specs.Parameters.{locateLength}
 
@@ -59,5 +59,5 @@ shown cause parameters = pick (cause =? 39) parameters (zeros locateLength)
 unfoldable pub senseOf : ℕ → List ℕ → List ℕ
 senseOf cause parameters =
     let r = rowIn senseTable cause in
-    let headed = put (put (zeros 24) 0 (r .byte0 ∷ r .byte1 ∷ [])) format-message-at (r .byte7 ∷ []) in
+    let headed = put (put (zeros senseSize) 0 (r .byte0 ∷ r .byte1 ∷ [])) format-message-at (r .byte7 ∷ []) in
     put headed parameters-at parameters

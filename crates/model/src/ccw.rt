@@ -1,8 +1,8 @@
 // A channel command word, taken apart.
 ghost use mathlib.Core.Path.{_≡_};
-ghost use mathlib.Core.List.{[], _∷_};
-ghost use Rattle.numbers.specs.Bits.{bit, anyBit};
+ghost use Rattle.numbers.specs.Bits.{bit};
 ghost use Rattle.model.specs.Names.{chain-command, suppress-length};
+ghost use Rattle.model.specs.Causes.{otherFlags};
 
 // CCW byte 4.
 pub struct Flags(pub u8);
@@ -29,7 +29,7 @@ impl Flags {
 
     // A flag other than the two is on.
     pub fn others(self) -> bool
-        ensures { λ r. ⌜ r ≡ anyBit (self .0) (0 ∷ 3 ∷ 4 ∷ 5 ∷ 6 ∷ 7 ∷ []) ⌝ }
+        ensures { λ r. ⌜ r ≡ otherFlags (self .0) ⌝ }
     {
         self.0 & Flags::OTHERS != 0
     }

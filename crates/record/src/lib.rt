@@ -14,6 +14,7 @@ ghost use lib.ListN.{length};
 ghost use Rattle.slices.specs.Parts.{part};
 ghost use Rattle.model.specs.Lent.{recordSize, recordBytes, recordOf, newRecord};
 ghost use Rattle.model.specs.Log.{withCounts};
+ghost use Rattle.model.specs.Names.{senseSize};
 ghost use Rattle.unit_state.specs.Standing.{stateLeft};
 
 // Where each field stands in the bytes; sense is first, up to the first count.
@@ -87,7 +88,7 @@ pub fn pack(u: Record, to: &mut [u8])
 
 // The sense that is left goes to the 24 bytes of the sense that was found, where it is another.
 fn put_sense(l: Left, to: &mut [u8])
-    requires { ⌜ length (now to) ≡ 24 ⌝ }
+    requires { ⌜ length (now to) ≡ senseSize ⌝ }
     ensures { λ _. ⌜ ((u : Record) → u .sense ≡ now (to .entry) → now (to .exit) ≡ stateLeft u l .unit .sense) ⌝ }
 {
     let left = l.sense;

@@ -7,7 +7,7 @@
 use Prim.Native.Nat.{ℕ}
 use mathlib.Core.List.{List, [], _∷_}
 use Rattle.slices.specs.Parts.{zeros, put}
-use Rattle.model.specs.Names.{parameters-at}
+use Rattle.model.specs.Names.{parameters-at, senseSize}
 use Rattle.model.specs.Parameters.{locateLength}
 use Rattle.model.specs.Sense.{CauseRow, senseTable, rowIn}
 use Rattle.sense_table.specs.declared.Sense.{Sense}
@@ -22,4 +22,4 @@ abbrev pub noSense : Sense
 noSense = record { head = zeros parameters-at; parameters = zeros locateLength }
 
 unfoldable pub senseBytes : Sense → List ℕ
-senseBytes s = put (put (zeros 24) 0 (s .head)) parameters-at (s .parameters)
+senseBytes s = put (put (zeros senseSize) 0 (s .head)) parameters-at (s .parameters)

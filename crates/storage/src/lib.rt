@@ -5,7 +5,8 @@ ghost use mathlib.Core.Path.{_≡_};
 ghost use Prim.Native.Nat.{_≤_};
 ghost use lib.ListN.{length, take};
 ghost use Rattle.slices.specs.Parts.{put};
-ghost use Rattle.storage.specs.Area.{fetchedFrom, deliveredFrom, InArea};
+ghost use Rattle.model.specs.Safe.{InArea};
+ghost use Rattle.storage.specs.Area.{fetchedFrom, deliveredFrom};
 
 // n bytes, from a place on, go to the front of `to`.
 pub fn fetch(c: Ccw, main: &[u8], from: usize, to: &mut [u8], n: usize)

@@ -30,7 +30,7 @@ use Rattle.unit_state.proofs.Units.{passed-on}
 use Rattle.endings.specs.declared.Ended.{Ended}
 use Rattle.endings.specs.Ending.{acceptedEnd, refusedEnd, Ends}
 use Rattle.endings.proofs.Ends.{refused-ends, accepted-ends}
-use Rattle.unit.specs.Admission.{Received}
+use Rattle.unit.specs.Received.{Received}
 
 -- a command that changed nothing but what the next one has before it
 passed-out : (u : Record) (s : Running) (main store : List ℕ) → noOperation (stateOf u s) main store ≡ out (ended (stateOf u (passedOn s)) 0 0 0) main store

@@ -18,19 +18,17 @@ use model::record::Record;
 use unit_state::Running;
 use unit_state::passed;
 ghost use mathlib.Core.Path.{_≡_};
-ghost use mathlib.Core.Bool.{not, _&&_};
-ghost use mathlib.Core.List.{[], _∷_};
-ghost use Rattle.numbers.specs.Choice.{_=?_, oneOf};
-ghost use Rattle.model.specs.Names.{NO-OPERATION, SENSE, SENSE-TYPE};
+ghost use Rattle.model.specs.Names.{NO-OPERATION};
+ghost use Rattle.model.specs.Causes.{notReady};
 ghost use Rattle.model.specs.Commands.{step};
 ghost use Rattle.model.specs.Safe.{CcwFits};
 ghost use Rattle.unit_state.specs.Standing.{stateOf, Sound, Handed};
 ghost use Rattle.endings.specs.Ending.{Ends};
-ghost use Rattle.unit.specs.Admission.{Received};
+ghost use Rattle.unit.specs.Received.{Received};
 
 // A unit that is not ready answers SENSE and SENSE TYPE alone.
 fn not_ready(code: u8, ready: u8) -> bool
-    ensures { λ r. ⌜ r ≡ (ready =? 0 && not (oneOf (SENSE ∷ SENSE-TYPE ∷ []) code)) ⌝ }
+    ensures { λ r. ⌜ r ≡ notReady ready code ⌝ }
 {
     if ready != 0 {
         return false;

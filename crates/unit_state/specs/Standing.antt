@@ -7,10 +7,9 @@
 --     Sound                       a device that a chain may run on, and a state that is safe on it, whatever record the chain found
 --     Handed                      the CCW of a command that the channel passed on: its data area is in main storage
 -- The run, the unit and the commands ask each other for `Sound` and `Handed`. Assumes nothing.
-use Prim.Native.Nat.{ℕ, _+_, _≤_}
+use Prim.Native.Nat.{ℕ, _≤_}
 use mathlib.Core.Bool.{Bool, true, false}
 use mathlib.Core.List.{List}
-use lib.ListN.{length}
 use Rattle.numbers.specs.Choice.{pick}
 use Rattle.slices.specs.Parts.{zeros}
 use Rattle.model.specs.declared.ccw.Ccw.{Ccw}
@@ -26,7 +25,8 @@ use Rattle.model.specs.Lent.{blockCount}
 use Rattle.model.specs.Causes.{kindOf}
 use Rattle.model.specs.Log.{withSense}
 use Rattle.model.specs.Commands.{leaves}
-use Rattle.model.specs.Safe.{Usable, CcwFits, Safe}
+use Rattle.model.specs.Safe.{Usable, CcwFits, InArea, Safe}
+use Rattle.model.specs.Names.{senseSize}
 use Rattle.log.specs.Counts.{counted}
 use Rattle.sense_table.specs.Sensed.{senseBytes}
 use Rattle.unit_state.specs.declared.Running.{Running}
@@ -55,7 +55,7 @@ abbrev pub passedOn : Running → Running
 passedOn s = record { kept = s .kept; defined = s .defined; before = Other; counts = s .counts; extent = s .extent; located = s .located }
 
 unfoldable pub senseNow : List ℕ → Bool → List ℕ
-senseNow found kept = pick kept found (zeros 24)
+senseNow found kept = pick kept found (zeros senseSize)
 
 unfoldable pub unitOf : Record → Running → Record
 unitOf u s = counted (withSense u (senseNow (u .sense) (s .kept))) (s .counts)
@@ -74,4 +74,4 @@ pub record Sound (dev : Device) (s : Running) (store : List ℕ) : Type 0 where
 
 pub record Handed (c : Ccw) (main : List ℕ) : Type 0 where
   pub ccw : CcwFits c
-  pub area : c .address + c .count ≤ length main
+  pub area : InArea c main 0 (c .count)

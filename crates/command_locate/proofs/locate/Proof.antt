@@ -35,7 +35,7 @@ unfolding zeros
 locate-by-requires c κs =
     let at = c .before .before .before .before in
     let first = at .before .before .before .before .before in
-    (first .pre .0, at .if2 .left, fetched-array (first .args .c) (first .args .main .now) _ _ (c .before .before .fetch .ensures) (omega (arith, first .pre .0 .area, at .if2 .left)))
+    (first .pre .0, at .if2 .left, fetched-array (first .args .c) (first .args .main .now) _ _ (c .before .before .fetch .ensures) (omega (arith, first .pre .0 .area .inside, at .if2 .left)))
 
 returns-3 : tie.Need-returns-3
 returns-3 c =

@@ -14,7 +14,7 @@ returns : tie.Need-returns
 unfolding shown zeros
 returns c =
     let first = c .before .before .before .before .before in
-    fetched-array (first .args .c) (first .args .main .now) _ _ (c .before .fetch .ensures) (omega (arith, first .pre .0 .area, first .pre .1))
+    fetched-array (first .args .c) (first .args .main .now) _ _ (c .before .fetch .ensures) (omega (arith, first .pre .0 .area .inside, first .pre .1))
     ∙ sym (pick-true _ _ _ (eq-eqb _ _ (c .before .before .before .if1 .taken)))
 
 pub shown-by-spec : {M : Type 1} → statement M

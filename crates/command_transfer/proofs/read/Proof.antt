@@ -8,11 +8,11 @@ use Rattle.command_transfer.proofs.read.Tie as tie
 returns : tie.Need-returns
 returns c u =
     let tested = c .before .before in
-    transfer-refused (reading (tested .before .before .before .before .before .pre)) (tested .before .is-read .ensures) (tested .transfer-cause .ensures) (c .before .if1 .taken) (c .refuse .ensures)
+    transfer-refused (reading (tested .before .before .before .before .before .pre)) (tested .before .reads .ensures) (tested .transfer-cause .ensures) (c .before .if1 .taken) (c .refuse .ensures)
 
 -- no cause was found
 through : (c : tie.Else1) → let a = c .before .before .before .before .before .before .args in Passed reads (a .d) (a .c) (a .s) (a .main .now) (a .store .now)
-through c = passed (reading (c .before .before .before .before .before .before .pre)) (c .before .before .is-read .ensures) (c .before .transfer-cause .ensures) (c .if1 .left)
+through c = passed (reading (c .before .before .before .before .before .before .pre)) (c .before .before .reads .ensures) (c .before .transfer-cause .ensures) (c .if1 .left)
 
 returns-2 : tie.Need-returns-2
 returns-2 c u =
@@ -22,7 +22,7 @@ returns-2 c u =
 
 pub read-spec : {M : Type 1} → statement M
 read-spec = tie.close (tie.spec
-    (search needs)  -- is-read-requires
+    (search needs)  -- reads-requires
     (search needs)  -- transfer-cause-requires
     (search needs)  -- refuse-requires
     returns

@@ -27,14 +27,12 @@ read-blocks-requires c κs =
     let least = c .before in
     let first = least .before .before .before .before .before in
     let a = first .args in
-    let sound = first .pre .0 in (
-      record {
-        stored = record { device = sound .device; inside = in-store (a .d) (a .store .now) 1 (sound .some-block) };
-        bytes = omega (arith, least .least .ensures);
-        area = record { inside = omega (arith, least .least .ensures, first .pre .1 .area) };
-      },
-      omega arith,
-    )
+    let sound = first .pre .0 in
+    record {
+      stored = record { device = sound .device; some = omega arith; inside = in-store (a .d) (a .store .now) 1 (sound .some-block) };
+      bytes = omega (arith, least .least .ensures);
+      area = record { inside = omega (arith, least .least .ensures, first .pre .1 .area .inside) };
+    }
 
 returns-2 : tie.Need-returns-2
 unfolding readIplCauses stateOf

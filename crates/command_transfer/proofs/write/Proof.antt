@@ -9,11 +9,11 @@ use Rattle.command_transfer.proofs.write.Tie as tie
 returns : tie.Need-returns
 returns c u =
     let tested = c .before .before in
-    transfer-refused (writing (tested .before .before .before .before .before .pre)) (tested .before .is-write .ensures) (tested .transfer-cause .ensures) (c .before .if1 .taken) (c .refuse .ensures)
+    transfer-refused (writing (tested .before .before .before .before .before .pre)) (tested .before .writes .ensures) (tested .transfer-cause .ensures) (c .before .if1 .taken) (c .refuse .ensures)
 
 -- no cause was found
 through : (c : tie.Else1) → let a = c .before .before .before .before .before .before .args in Passed writes (a .d) (a .c) (a .s) (a .main .now) (a .store .now)
-through c = passed (writing (c .before .before .before .before .before .before .pre)) (c .before .before .is-write .ensures) (c .before .transfer-cause .ensures) (c .if1 .left)
+through c = passed (writing (c .before .before .before .before .before .before .pre)) (c .before .before .writes .ensures) (c .before .transfer-cause .ensures) (c .if1 .left)
 
 write-done-requires : tie.Need-write-done-requires
 write-done-requires c κs =
@@ -30,12 +30,12 @@ returns-2 c u =
 
 pub write-spec : {M : Type 1} → statement M
 write-spec = tie.close (tie.spec
-    (search needs)  -- is-write-requires
+    (search needs)  -- writes-requires
     (search needs)  -- transfer-cause-requires
     (search needs)  -- refuse-requires
     returns
     (λ c κs. let p = through (c .before) in (p .transfer .sound, p .located))  -- located-move-requires
-    (λ c κs. move-asks (through (c .before .before .before)) (c .before .located-move .ensures) .0)  -- store-blocks-requires
+    (λ c κs. move-asks (through (c .before .before .before)) (c .before .located-move .ensures))  -- store-blocks-requires
     write-done-requires
     (search needs)  -- same-length
     returns-2)

@@ -1,9 +1,10 @@
 -- `step` meets its contract: the channel's table, then the unit's, then the command's own. Assumes nothing.
 use mathlib.Core.Path.{sym, _∙_}
+use native.Mathlib.Omega.{arith}
 use borrow.Author.Needs.{needs}
 use Rattle.model.proofs.Steps.{channel-room}
 use Rattle.unit_state.specs.Standing.{stateOf}
-use Rattle.unit.specs.Admission.{Received}
+use Rattle.unit.specs.Received.{Received}
 use Rattle.unit.proofs.Performing.{by-channel, by-ready, no-operation-ends}
 use Rattle.unit.proofs.step.Statement.{statement}
 use Rattle.unit.proofs.step.Tie as tie
@@ -41,7 +42,7 @@ perform-requires c κs =
     let a = first .args in
     let other = tested .if3 .left in (
       first .pre .0,
-      record { ccw = first .pre .1; area = channel-room (a .d) (a .c) (stateOf (a .u) (a .s)) (a .main .now) (a .store .now) (seen at .channel) other },
+      record { ccw = first .pre .1; area = record { inside = omega (arith, channel-room (a .d) (a .c) (stateOf (a .u) (a .s)) (a .main .now) (a .store .now) (seen at .channel) other) } },
       seen at,
       other,
     )

@@ -1,6 +1,5 @@
 -- `call::call` meets its contract. Refused: `call-refused`. Else no cause holds, and the record is the one that the run left. Assumes nothing.
 use mathlib.Core.Path.{sym, _∙_}
-use Rattle.model.specs.Chain.{classA}
 use Rattle.model.proofs.Refusals.{call-refused}
 use borrow.Author.Needs.{needs}
 use Rattle.chain.proofs.call.call.Statement.{statement}
@@ -9,10 +8,12 @@ use Rattle.chain.proofs.call.call.Tie as tie
 returns : tie.Need-returns
 returns c =
     let a = c .before .before .before .before .before .before .before .before .before .args in
-    sym (call-refused classA (a .chain .now) (a .main .now) (a .store .now) (a .u) (a .answers .now) _ (sym (c .before .cause-of .ensures)) (c .if1 .taken))
+    sym (call-refused (a .d) (a .chain .now) (a .main .now) (a .store .now) (a .u) (a .answers .now) _ (sym (c .before .call-cause .ensures)) (c .if1 .taken))
 
 run-allowed-requires : tie.Need-run-allowed-requires
-run-allowed-requires c κs = let tested = c .before .before .before in sym (tested .before .cause-of .ensures) ∙ tested .if1 .left
+run-allowed-requires c κs =
+    let tested = c .before .before .before in
+    (tested .before .before .before .before .before .before .before .before .before .pre, sym (tested .before .call-cause .ensures) ∙ tested .if1 .left)
 
 returns-2 : tie.Need-returns-2
 returns-2 c = rw (c .record-left .ensures) (c .before .before .before .before .before .before .before .before .run-allowed .ensures .after)
@@ -21,7 +22,7 @@ pub call-spec : {M : Type 1} → statement M
 call-spec =
     tie.close
     (tie.spec
-    (search needs)  -- cause-of-requires
+    (search needs)  -- call-cause-requires
     (search needs)  -- same-length
     (search needs)  -- same-length-2
     (search needs)  -- same-length-3

@@ -1,6 +1,5 @@
 -- `call::run_allowed` meets its contract: that no cause holds leaves a sound device, and the run from a fresh state is the call. Assumes nothing.
 use native.Mathlib.Omega.{arith}
-use Rattle.model.specs.Chain.{classA}
 use Rattle.model.proofs.Endings.{callable}
 use Rattle.chain.proofs.Runs.{callable-sound, allowed}
 use borrow.Author.Needs.{needs}
@@ -10,24 +9,23 @@ use Rattle.chain.proofs.call.run_allowed.Tie as tie
 run-chain-requires : tie.Need-run-chain-requires
 run-chain-requires c κs =
     let start = c .before .before .before in
-    let first = start .before .before .before .before .before .before in
+    let first = start .before .before .before .before .before in
     let a = first .args in
-    let k = callable classA (a .chain .now) (a .main .now) (a .store .now) (a .answers .now) (first .pre) in
-    (k .answered, omega (arith, k .few, k .whole), rw (start .before .class-a .ensures, start .start .ensures) (callable-sound (a .chain .now) (a .main .now) (a .store .now) (a .answers .now) (a .u) k))
+    let k = callable (a .d) (a .chain .now) (a .main .now) (a .store .now) (a .answers .now) (first .pre .1) in
+    (k .answered, omega (arith, k .few, k .whole), rw (start .start .ensures) (callable-sound (a .d) (a .chain .now) (a .main .now) (a .store .now) (a .answers .now) (a .u) (first .pre .0) k))
 
 returns : tie.Need-returns
 returns c =
     let run = c .before .before .before .before .before .before in
     let start = run .before .before .before .before in
-    let first = start .before .before .before .before .before .before in
+    let first = start .before .before .before .before .before in
     let a = first .args in
-    allowed (a .chain .now) (a .main .now) (a .store .now) (a .answers .now) _ _ _ (a .u) _ _ _ (start .before .class-a .ensures) (start .start .ensures) (first .pre) (run .run-chain .ensures)
+    allowed (a .d) (a .chain .now) (a .main .now) (a .store .now) (a .answers .now) _ _ _ (a .u) _ _ (start .start .ensures) (first .pre .1) (run .run-chain .ensures)
 
 pub run-allowed-spec : {M : Type 1} → statement M
 run-allowed-spec =
     tie.close
     (tie.spec
-    (search needs)  -- class-a-requires
     (search needs)  -- start-requires
     run-chain-requires
     (search needs)  -- same-length

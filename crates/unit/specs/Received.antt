@@ -2,16 +2,14 @@
 --     Received   the channel passed the command on, and the unit is ready for it
 -- Assumes nothing.
 use mathlib.Core.Path.{_≡_}
-use mathlib.Core.Bool.{false, not, _&&_}
-use mathlib.Core.List.{List, [], _∷_}
+use mathlib.Core.Bool.{false}
+use mathlib.Core.List.{List}
 use Prim.Native.Nat.{ℕ}
-use Rattle.numbers.specs.Choice.{_=?_, oneOf}
 use Rattle.model.specs.declared.ccw.Ccw.{Ccw}
 use Rattle.model.specs.declared.record.Record.{Record}
-use Rattle.model.specs.Names.{SENSE, SENSE-TYPE}
 use Rattle.model.specs.Rules.{firstOf}
-use Rattle.model.specs.Causes.{channelCauses}
+use Rattle.model.specs.Causes.{channelCauses, notReady}
 
 pub record Received (c : Ccw) (u : Record) (main : List ℕ) : Type 0 where
   pub channel : firstOf (channelCauses c main) ≡ 0
-  pub ready : (u .ready =? 0 && not (oneOf (SENSE ∷ SENSE-TYPE ∷ []) (c .command))) ≡ false
+  pub ready : notReady (u .ready) (c .command) ≡ false
