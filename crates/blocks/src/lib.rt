@@ -33,9 +33,9 @@ pub fn begun(d: Device, n: usize) -> usize
 }
 
 // The bytes of a block in the store: from the first up to the one behind the last.
-pub struct Span {
-    pub start: usize,
-    pub end: usize,
+struct Span {
+    start: usize,
+    end: usize,
 }
 
 // Where a block lies. Nobody else says.

@@ -5,7 +5,7 @@ use model::ccw::Ccw;
 use model::device::Device;
 use model::record::Record;
 use model::sizes;
-use model::status::Channel;
+use model::status::ChannelStatus;
 use sense_table::Sense;
 use slices::put_at;
 use unit::step;
@@ -30,7 +30,7 @@ fn mark(answers: &mut [u8], at: usize, wrong: bool)
     ensures { λ _. ⌜ now (answers .exit) ≡ pick wrong (set (now (answers .entry)) at INCORRECT-LENGTH) (now (answers .entry)) ⌝ }
 {
     if wrong {
-        answers[at] = Channel::INCORRECT_LENGTH;
+        answers[at] = ChannelStatus::INCORRECT_LENGTH;
     }
 }
 

@@ -16,6 +16,7 @@ ghost use mathlib.Core.Path.{_≡_};
 ghost use mathlib.Core.List.{List};
 ghost use Prim.Native.Nat.{ℕ, min, _≤_};
 ghost use lib.ListN.{length, take};
+ghost use Rattle.slices.specs.Parts.{mostCopied};
 ghost use Rattle.model.specs.declared.device.Device.{Device};
 ghost use Rattle.model.specs.declared.record.Record.{Record};
 ghost use Rattle.model.specs.Names.{SENSE, SENSE-TYPE, READ-LOG};
@@ -27,7 +28,7 @@ ghost use Rattle.command_sense.specs.Sent.{sentEnd};
 
 // A command that can move all of these bytes: as many as its count asks for go to its data area. It leaves these counts, and no sense.
 fn send(c: Ccw, s: Running, main: &mut [u8], bytes: &[u8], k: Counts) -> Ended
-    requires { ⌜ Handed c (now main) × (length (now bytes) ≤ 65536) ⌝ }
+    requires { ⌜ Handed c (now main) × (length (now bytes) ≤ mostCopied) ⌝ }
     ensures sent { λ _. ⌜ now (main .exit) ≡ delivered c (now (main .entry)) (take (min (c .count) (length (now (bytes .entry)))) (now (bytes .entry))) ⌝ }
     ensures end { λ r. ⌜ r ≡ sentEnd c s (length (now (bytes .entry))) k ⌝ }
 {

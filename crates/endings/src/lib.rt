@@ -4,8 +4,8 @@ use model::ccw::Ccw;
 use model::command;
 use model::kind::Kind;
 use model::sizes;
-use model::status::Channel;
-use model::status::Status;
+use model::status::ChannelStatus;
+use model::status::UnitStatus;
 use sense_table::Sense;
 use unit_state::Left;
 use unit_state::Running;
@@ -35,8 +35,8 @@ fn answer_of(kind: Kind, residual: usize, cause: u8, blocks: usize) -> Answer
     requires { ⌜ (residual < 65536) × (blocks < 65536) ⌝ }
     ensures { λ r. ⌜ r ≡ answerWords kind residual cause blocks ⌝ }
 {
-    let unit = Status::of(kind);
-    let channel = Channel::of(kind);
+    let unit = UnitStatus::of(kind);
+    let channel = ChannelStatus::of(kind);
     let statuses = (unit.0 as usize) * 256 + (channel.0 as usize);
     Answer {
         front: statuses * 65536 + residual,
@@ -70,7 +70,7 @@ fn wrong_by(kind: Kind, c: Ccw, can: usize) -> bool
 
 // A command that moved so many bytes of those that it could, and so many blocks, with a cause, or 0. The state is the one that is
 // left, or, of a refused command, the one that it found; the sense is that of its cause.
-pub fn end(
+fn end(
     c: Ccw,
     s: Running,
     moved: usize,

@@ -15,8 +15,8 @@ use Rattle.model.specs.declared.ccw.Ccw.{Ccw}
 use Rattle.model.specs.declared.record.Record.{Record}
 use Rattle.model.specs.declared.record.Counts.{Counts}
 use Rattle.model.specs.Log.{logOf}
-use Rattle.model.specs.declared.status.Status.{Status}
-use Rattle.model.specs.declared.status.Channel.{Channel}
+use Rattle.model.specs.declared.status.UnitStatus.{UnitStatus}
+use Rattle.model.specs.declared.status.ChannelStatus.{ChannelStatus}
 use Rattle.model.specs.Commands.{Out}
 use Rattle.model.specs.declared.device.Device.{Device}
 use Rattle.model.specs.Chain.{System, called}
@@ -59,10 +59,10 @@ ends-unique o u c s d e main main′ store store′ p q =
       store-same = p .store-same ∙ sym (q .store-same);
     }
 
-pub status-unique : (n : ℕ) (a b : Status) → a .0 ≡ n → b .0 ≡ n → a ≡ b
+pub status-unique : (n : ℕ) (a b : UnitStatus) → a .0 ≡ n → b .0 ≡ n → a ≡ b
 status-unique n a b p q = λ i. record { 0 = same-by (a .0) (b .0) n p q i }
 
-pub channel-unique : (n : ℕ) (a b : Channel) → a .0 ≡ n → b .0 ≡ n → a ≡ b
+pub channel-unique : (n : ℕ) (a b : ChannelStatus) → a .0 ≡ n → b .0 ≡ n → a ≡ b
 channel-unique n a b p q = λ i. record { 0 = same-by (a .0) (b .0) n p q i }
 
 -- whatever record the counts are those of: of any one

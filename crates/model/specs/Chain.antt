@@ -2,7 +2,9 @@
 --     System   all that a chain works on: the state, main storage, the store, the answers, the commands reached
 --     next     the system after command i;  more   whether the chain goes on after it
 --     run      the chain from command i on, n commands at most
---     call     01, What is lent and Causes: refused as a whole by 1 to 5, or the chain run
+--     start    the state at a chain's beginning
+--     callOf   01, What is lent and Causes: refused as a whole by 1 to 5, or the chain run, on a device; Called   what it gives
+--     classA   the device of every call of ours;  call   the call on it
 -- Assumes nothing.
 use Prim.Native.Nat.{ℕ, zero, suc, _+_, _*_, _/_}
 use mathlib.Core.Bool.{Bool, false}

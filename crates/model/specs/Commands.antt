@@ -1,10 +1,14 @@
 -- What each of the nine commands does (01, Commands that are accepted), and one command whole.
 --     Out        what a command gives: the numbers of its answer and the new state, main storage, the store
---     ending     how a command ends, accepted or refused: the numbers of its answer, and what is left by the kind of its cause
+--     leaves     what a command leaves of the state, by the kind of its cause
+--     ending     how a command ends, accepted or refused: the numbers of its answer, and what it leaves
 --     begun      the blocks that so many bytes begin
 --     noOperation, defineExtent, locate, read, write, readIpl, sense, senseType, readLog
 --                an accepted command; defineDone and the like are its ending, beside the bytes that it moves
 --     refused    a command that was given a cause, and with it this sense (senseGiven)
+--     accepted   a command that no cause refuses, by its code
+--     seen       the state that a command of the unit begins with: cleared, but for two commands
+--     decided    accepted or refused, by a verdict
 --     performed  a command that the channel and the unit passed on: refused by the first of its own causes that holds, or accepted
 --     step       one command: by the first of all its causes
 -- Assumes nothing.

@@ -5,9 +5,9 @@ ghost use mathlib.Core.Bool.{false};
 ghost use Rattle.model.specs.Answer.{unitStatus, channelBy};
 
 // What the unit presents, gathered over a command.
-pub struct Status(pub u8);
+pub struct UnitStatus(pub u8);
 
-impl Status {
+impl UnitStatus {
     pub const CHANNEL_END: u8 = 0x08;
 
     pub const DEVICE_END: u8 = 0x04;
@@ -15,34 +15,34 @@ impl Status {
     pub const UNIT_CHECK: u8 = 0x02;
 
     // Nothing, where the unit did not see the command.
-    pub fn of(kind: Kind) -> Status
+    pub fn of(kind: Kind) -> UnitStatus
         ensures { λ r. ⌜ r .0 ≡ unitStatus kind ⌝ }
     {
         match kind {
-            Kind::Accepted => Status(Status::CHANNEL_END + Status::DEVICE_END),
-            Kind::ProgramCheck => Status(0),
-            Kind::UnitCheck => Status(
-                Status::CHANNEL_END + Status::DEVICE_END + Status::UNIT_CHECK,
+            Kind::Accepted => UnitStatus(UnitStatus::CHANNEL_END + UnitStatus::DEVICE_END),
+            Kind::ProgramCheck => UnitStatus(0),
+            Kind::UnitCheck => UnitStatus(
+                UnitStatus::CHANNEL_END + UnitStatus::DEVICE_END + UnitStatus::UNIT_CHECK,
             ),
         }
     }
 }
 
 // What the channel adds; a wrong length, later.
-pub struct Channel(pub u8);
+pub struct ChannelStatus(pub u8);
 
-impl Channel {
+impl ChannelStatus {
     pub const PROGRAM_CHECK: u8 = 0x20;
 
     pub const INCORRECT_LENGTH: u8 = 0x40;
 
-    pub fn of(kind: Kind) -> Channel
+    pub fn of(kind: Kind) -> ChannelStatus
         ensures { λ r. ⌜ r .0 ≡ channelBy kind false ⌝ }
     {
         match kind {
-            Kind::Accepted => Channel(0),
-            Kind::ProgramCheck => Channel(Channel::PROGRAM_CHECK),
-            Kind::UnitCheck => Channel(0),
+            Kind::Accepted => ChannelStatus(0),
+            Kind::ProgramCheck => ChannelStatus(ChannelStatus::PROGRAM_CHECK),
+            Kind::UnitCheck => ChannelStatus(0),
         }
     }
 }

@@ -1,5 +1,6 @@
 // The unit record and its 34 bytes: any 34 bytes are a record (`unpack`, `pack`), and what a chain leaves goes to those that it found
-// (`pack_left`) or makes another record (`record_left`). Nothing is refused.
+// (`pack_left`) or makes another record (`record_left`). `new_record` is that of a new unit; `same_sense` and `same_count` compare. Nothing
+// is refused.
 use model::kind::Kind;
 use model::record::Record;
 use model::sizes;

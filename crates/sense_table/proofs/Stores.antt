@@ -1,5 +1,4 @@
 -- The table's rows, and the sense that is made of one, are the definition's.
---     rowOf                      the definition's row of a cause, as the code's table holds it
 --     row-before, row-past       a cause below the table's, and one above them, has none
 --     row-bytes                  the three bytes of a row
 --     sense-is                   the 24 bytes of what the code carries are the definition's
@@ -20,11 +19,7 @@ use Rattle.model.specs.Parameters.{locateLength}
 use Rattle.model.proofs.Fields.{sense-row}
 use Rattle.numbers.specs.Big.{bytes3}
 use Rattle.numbers.proofs.Joined.{both-true}
-use Rattle.sense_table.specs.declared.SenseRow.{SenseRow}
-use Rattle.sense_table.specs.Sensed.{senseShowing, noSense, senseBytes}
-
-abbrev pub rowOf : ℕ → SenseRow
-rowOf cause = let d = rowIn senseTable cause in record { 0 = d .byte0 * 65536 + d .byte1 * 256 + d .byte7 }
+use Rattle.sense_table.specs.Sensed.{rowOf, senseShowing, noSense, senseBytes}
 
 pub row-before : (cause : ℕ) → cause < 20 → record { 0 = 0 } ≡ rowOf cause
 unfolding rowIn pick

@@ -3,19 +3,10 @@ use model::sizes;
 use numbers::bytes3;
 use slices::put_at;
 ghost use mathlib.Core.Path.{_≡_};
-ghost use Prim.Native.Nat.{_+_, _*_};
-ghost use Rattle.model.specs.Sense.{senseTable, rowIn};
-ghost use Rattle.sense_table.specs.Sensed.{senseShowing, noSense, senseBytes};
+ghost use Rattle.sense_table.specs.Sensed.{rowOf, senseShowing, noSense, senseBytes};
 
 // Sense bytes 0, 1 and 7, side by side in one number.
 pub struct SenseRow(pub u32);
-
-// Where the third of them stands in sense, and where the parameters of a LOCATE do.
-impl SenseRow {
-    pub const FORMAT_MESSAGE: usize = 7;
-
-    pub const PARAMETERS: usize = 8;
-}
 
 const NO_SENSE: SenseRow = SenseRow(0x00_00_00);
 
@@ -71,9 +62,9 @@ const SENSE_ROWS: [SenseRow; 25] = [
     NOT_ON_LINE, // 44
 ];
 
-// The table is held against the definition here, once. A cause that is not a unit check has no sense.
+// The table is held against the definition here, once. A cause that has no row has no sense.
 fn row_of(cause: u8) -> SenseRow
-    ensures { λ r. ⌜ r ≡ (let d = rowIn senseTable cause in record { 0 = d .byte0 * 65536 + d .byte1 * 256 + d .byte7 }) ⌝ }
+    ensures { λ r. ⌜ r ≡ rowOf cause ⌝ }
 {
     if cause < FIRST {
         return NO_SENSE;
@@ -86,17 +77,22 @@ fn row_of(cause: u8) -> SenseRow
 
 // The sense that a command leaves: bytes 0 to 7 by the table, 8 to 15 the parameters that its cause shows. The other eight are zeros.
 pub struct Sense {
-    pub head: [u8; SenseRow::PARAMETERS],
+    pub head: [u8; Sense::PARAMETERS],
     pub parameters: [u8; sizes::LOCATE],
 }
 
 impl Sense {
+    // Where format and message stand, and where the parameters begin.
+    pub const FORMAT_MESSAGE: usize = 7;
+
+    pub const PARAMETERS: usize = 8;
+
     // Of a command that is accepted.
     pub fn none() -> Sense
         ensures { λ r. ⌜ r ≡ noSense ⌝ }
     {
         Sense {
-            head: [0u8; SenseRow::PARAMETERS],
+            head: [0u8; Sense::PARAMETERS],
             parameters: [0u8; sizes::LOCATE],
         }
     }
@@ -107,10 +103,10 @@ impl Sense {
     {
         let row = row_of(cause);
         let bytes = bytes3(row.0 as usize);
-        let mut head = [0u8; SenseRow::PARAMETERS];
+        let mut head = [0u8; Sense::PARAMETERS];
         head[0] = bytes[0];
         head[1] = bytes[1];
-        head[SenseRow::FORMAT_MESSAGE] = bytes[2];
+        head[Sense::FORMAT_MESSAGE] = bytes[2];
         Sense {
             head: head,
             parameters: parameters,
@@ -124,8 +120,8 @@ impl Sense {
         let head = self.head;
         let parameters = self.parameters;
         let mut sense = [0u8; sizes::SENSE];
-        put_at(&mut sense, 0, &head, SenseRow::PARAMETERS);
-        put_at(&mut sense, SenseRow::PARAMETERS, &parameters, sizes::LOCATE);
+        put_at(&mut sense, 0, &head, Sense::PARAMETERS);
+        put_at(&mut sense, Sense::PARAMETERS, &parameters, sizes::LOCATE);
         sense
     }
 }

@@ -3,6 +3,7 @@
 --     part    the n bytes from a place on
 --     put     a list with other bytes in the place of its own, from a place on
 --     pad     exactly n bytes: those given, then zeros
+--     mostCopied   the bytes that one copy moves at most
 -- They stay shut; the laws about them are in `proofs/Laws.antt`. Assumes nothing.
 use Prim.Native.Nat.{ℕ, _+_, _-_}
 use mathlib.Core.List.{List, _++_}
@@ -19,3 +20,7 @@ put l at bytes = take at l ++ bytes ++ drop (at + length bytes) l
 
 unfoldable pub pad : ℕ → List ℕ → List ℕ
 pad n bytes = take n bytes ++ zeros (n - length bytes)
+
+-- a count has 16 bits
+abbrev pub mostCopied : ℕ
+mostCopied = 65536

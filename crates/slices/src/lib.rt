@@ -2,7 +2,7 @@
 ghost use mathlib.Core.Path.{_≡_};
 ghost use Prim.Native.Nat.{_+_, _≤_, min};
 ghost use lib.ListN.{length, take};
-ghost use Rattle.slices.specs.Parts.{zeros, put};
+ghost use Rattle.slices.specs.Parts.{zeros, put, mostCopied};
 
 // The lesser of two.
 pub fn least(a: usize, b: usize) -> usize
@@ -19,13 +19,13 @@ fn each(from: &[u8], to: &mut [u8], k: usize)
     bytes::copy(&from[..k], to);
 }
 
-// The most that a copy moves: a count has 16 bits.
+// The most that one copy moves: a count has 16 bits.
 const HELD: usize = 65536;
 
 // The first n bytes of `from` go to the front of `to`, by way of a local. LLVM is not told that `from` and `to` lie apart, but
 // sees that a local lies apart from both: either `each` is a memcpy then, the two are one memmove, and nothing is held when the code runs.
 pub fn copy(from: &[u8], to: &mut [u8], n: usize)
-    requires { ⌜ (n ≤ length (now from)) × (n ≤ length (now to)) × (n ≤ 65536) ⌝ }
+    requires { ⌜ (n ≤ length (now from)) × (n ≤ length (now to)) × (n ≤ mostCopied) ⌝ }
     ensures { λ _. ⌜ now (to .exit) ≡ put (now (to .entry)) 0 (take n (now (from .entry))) ⌝ }
 {
     let mut held = [0u8; HELD];
@@ -44,7 +44,7 @@ pub fn clear(to: &mut [u8])
 
 // The first n bytes of `from` go to `to`, from `at` on.
 pub fn put_at(to: &mut [u8], at: usize, from: &[u8], n: usize)
-    requires { ⌜ (at + n ≤ length (now to)) × (n ≤ length (now from)) × (n ≤ 65536) ⌝ }
+    requires { ⌜ (at + n ≤ length (now to)) × (n ≤ length (now from)) × (n ≤ mostCopied) ⌝ }
     ensures { λ _. ⌜ now (to .exit) ≡ put (now (to .entry)) at (take n (now (from .entry))) ⌝ }
 {
     copy(from, &mut to[at..], n);

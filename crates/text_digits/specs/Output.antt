@@ -1,6 +1,5 @@
 -- Text that is added to an output of a given length.
---     Adds         a text goes to the output from a place on, as much of it as fits; and the place after it
---     mostAtOnce   the longest text that one call adds: what `slices::copy` takes
+--     Adds   a text goes to the output from a place on, as much of it as fits; and the place after it
 -- Assumes nothing.
 use Prim.Native.Nat.{ℕ, _+_, _-_, min}
 use mathlib.Core.Path.{_≡_}
@@ -12,6 +11,3 @@ use Rattle.slices.specs.Parts.{put}
 pub record Adds (out : List ℕ) (at : ℕ) (text : List ℕ) (next : ℕ) (back : List ℕ) : Type 0 where
   pub place : next ≡ at + min (length out - at) (length text)
   pub bytes : back ≡ put out at (take (length out - at) text)
-
-abbrev pub mostAtOnce : ℕ
-mostAtOnce = 65536

@@ -4,8 +4,9 @@ ghost use mathlib.Core.Path.{_≡_};
 ghost use Prim.Native.Nat.{_+_, _%_, _≤_, _<_};
 ghost use lib.ListN.{length};
 ghost use mathlib.Core.List.{[], _∷_};
+ghost use Rattle.slices.specs.Parts.{mostCopied};
 ghost use Rattle.text_digits.specs.Digits.{digit, decimal, sixDigits, hex, valueOf, isHex, allDigits, bytesIn, same};
-ghost use Rattle.text_digits.specs.Output.{Adds, mostAtOnce};
+ghost use Rattle.text_digits.specs.Output.{Adds};
 
 // The character of a digit.
 fn digit(n: u8) -> u8
@@ -24,7 +25,7 @@ fn value_of(c: u8) -> u8
 
 // Adds a text at a place of the output, as far as it fits, and returns the place after it.
 pub fn add(out: &mut [u8], at: usize, text: &[u8]) -> usize
-    requires { ⌜ length (now text) ≤ mostAtOnce ⌝ }
+    requires { ⌜ length (now text) ≤ mostCopied ⌝ }
     ensures { λ r. ⌜ Adds (now (out .entry)) at (now (text .entry)) r (now (out .exit)) ⌝ }
 {
     if out.len() <= at {

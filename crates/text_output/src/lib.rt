@@ -5,14 +5,15 @@ use text_digits::add_decimal;
 use text_digits::add_hex;
 ghost use Prim.Native.Nat.{_+_, _*_, _≤_};
 ghost use lib.ListN.{length};
+ghost use Rattle.slices.specs.Parts.{mostCopied};
 ghost use Rattle.model.specs.Answer.{answerSize};
 ghost use Rattle.text_digits.specs.Digits.{decimal, hex};
-ghost use Rattle.text_digits.specs.Output.{Adds, mostAtOnce};
+ghost use Rattle.text_digits.specs.Output.{Adds};
 ghost use Rattle.text_output.specs.Printout.{line, refusedLine, statusLines, countLines, commandLines, printoutOf};
 
 // A line with a number.
 fn number_line(out: &mut [u8], at: usize, key: &[u8], n: usize) -> usize
-    requires { ⌜ length (now key) ≤ mostAtOnce ⌝ }
+    requires { ⌜ length (now key) ≤ mostCopied ⌝ }
     ensures { λ r. ⌜ Adds (now (out .entry)) at (line (now (key .entry)) (decimal n)) r (now (out .exit)) ⌝ }
 {
     let keyed = add(out, at, key);
@@ -22,7 +23,7 @@ fn number_line(out: &mut [u8], at: usize, key: &[u8], n: usize) -> usize
 
 // A line with bytes.
 fn bytes_line(out: &mut [u8], at: usize, key: &[u8], bytes: &[u8]) -> usize
-    requires { ⌜ length (now key) ≤ mostAtOnce ⌝ }
+    requires { ⌜ length (now key) ≤ mostCopied ⌝ }
     ensures { λ r. ⌜ Adds (now (out .entry)) at (line (now (key .entry)) (hex (now (bytes .entry)))) r (now (out .exit)) ⌝ }
 {
     let keyed = add(out, at, key);

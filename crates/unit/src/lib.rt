@@ -1,5 +1,5 @@
 // One command: the channel's tests, the unit's, then the command's own and what it does. `step` is the way in.
-use channel::tests::channel_cause;
+use channel::causes::channel_cause;
 use command_extent::define_extent;
 use command_locate::locate;
 use command_sense::read_log;

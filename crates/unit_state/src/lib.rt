@@ -1,5 +1,5 @@
 // What changes while a chain runs, beside the record that it found, and the state after a command. A command that leaves other
-// sense than none, or than what was found, ends the chain: its cause is then beside the state, in `Left`.
+// sense than none, or than what was found, ends the chain: its cause and its sense are then beside the state, in `Left`.
 use model::extent::Displacement;
 use model::extent::Extent;
 use model::extent::Located;
@@ -130,13 +130,13 @@ pub fn carried(s: Running) -> Running
     let located = s.located;
     let counts = s.counts;
     let before = s.before;
-    let sense = s.kept;
+    let kept = s.kept;
     Running {
         extent: extent,
         located: located,
         counts: counts,
         before: before,
-        kept: sense,
+        kept: kept,
         defined: s.defined,
     }
 }

@@ -7,7 +7,8 @@ use borrow.Author.Needs.{needs}
 use Rattle.numbers.proofs.Tables.{table-at}
 use Rattle.numbers.specs.Choice.{pick}
 use Rattle.model.specs.Sense.{rowIn}
-use Rattle.sense_table.proofs.Stores.{rowOf, row-before, row-past}
+use Rattle.sense_table.specs.Sensed.{rowOf}
+use Rattle.sense_table.proofs.Stores.{row-before, row-past}
 use Rattle.sense_table.proofs.row_of.Statement.{statement}
 use Rattle.sense_table.proofs.row_of.Tie as tie
 

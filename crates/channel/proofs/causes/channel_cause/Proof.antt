@@ -8,8 +8,8 @@ use Rattle.model.specs.Rules.{Rule, firstOf}
 use Rattle.model.specs.Causes.{channelCauses}
 use Rattle.model.proofs.Verdicts.{first-here, first-later, first-none}
 use borrow.Author.Needs.{needs}
-use Rattle.channel.proofs.tests.channel_cause.Statement.{statement}
-use Rattle.channel.proofs.tests.channel_cause.Tie as tie
+use Rattle.channel.proofs.causes.channel_cause.Statement.{statement}
+use Rattle.channel.proofs.causes.channel_cause.Tie as tie
 
 abbrev table : tie.Start → List Rule
 table s = channelCauses (s .args .c) (s .args .main .now)

@@ -1,8 +1,8 @@
 -- `leaves_storage` meets its contract. Assumes nothing.
 use borrow.Author.Tests.{eq-eqb, ne-eqb}
 use borrow.Author.Needs.{needs}
-use Rattle.channel.proofs.tests.leaves_storage.Statement.{statement}
-use Rattle.channel.proofs.tests.leaves_storage.Tie as tie
+use Rattle.channel.proofs.causes.leaves_storage.Statement.{statement}
+use Rattle.channel.proofs.causes.leaves_storage.Tie as tie
 
 returns : tie.Need-returns
 returns c = simp (eq-eqb _ _ (c .if1 .taken))

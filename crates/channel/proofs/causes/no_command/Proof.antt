@@ -5,8 +5,8 @@ use mathlib.Core.List.{[], _∷_}
 use Rattle.numbers.proofs.Bits.{mask-off}
 use Rattle.numbers.specs.Choice.{oneOf}
 use borrow.Author.Needs.{needs}
-use Rattle.channel.proofs.tests.no_command.Statement.{statement}
-use Rattle.channel.proofs.tests.no_command.Tie as tie
+use Rattle.channel.proofs.causes.no_command.Statement.{statement}
+use Rattle.channel.proofs.causes.no_command.Tie as tie
 
 returns : tie.Need-returns
 unfolding oneOf
