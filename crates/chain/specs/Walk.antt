@@ -24,6 +24,7 @@ use Rattle.model.specs.Parameters.{locateLength}
 use Rattle.model.specs.Sense.{shown}
 use Rattle.model.specs.Commands.{Out}
 use Rattle.model.specs.Chain.{System, system, stepAt, next, more, run, start, Called, called, callOf}
+use Rattle.log.specs.Counts.{countsOf}
 use Rattle.sense_table.specs.Sensed.{senseShowing, noSense}
 use Rattle.unit_state.specs.declared.Running.{Running}
 use Rattle.unit_state.specs.declared.Left.{Left}
@@ -37,7 +38,7 @@ carriedOf kept s = record {
   kept = kept;
   defined = s .defined;
   before = s .before;
-  counts = record { «blocks_read» = s .unit .«blocks_read»; «blocks_written» = s .unit .«blocks_written»; movements = s .unit .movements };
+  counts = countsOf (s .unit);
   extent = s .extent;
   located = s .located;
 }

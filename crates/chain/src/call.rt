@@ -7,9 +7,11 @@ use model::record::Record;
 use record::record_left;
 use unit_state::start;
 ghost use mathlib.Core.Path.{_≡_};
+ghost use Prim.Native.Nat.{_≤_};
 ghost use Rattle.model.specs.Rules.{firstOf};
 ghost use Rattle.model.specs.Causes.{callCauses};
 ghost use Rattle.model.specs.Chain.{callOf};
+ghost use Rattle.model.specs.Host.{resultOf};
 ghost use Rattle.model.specs.Safe.{Usable};
 ghost use Rattle.chain.specs.Walk.{Allowed, calledWith};
 
@@ -63,4 +65,13 @@ pub fn call(
         reached: walked.reached,
         unit: record_left(u, l),
     }
+}
+
+// What a call says as one number: 256 times the cause plus the commands reached.
+pub fn result_of(cause: u8, reached: usize) -> u32
+    requires { ⌜ reached ≤ 32 ⌝ }
+    ensures { λ r. ⌜ r ≡ resultOf cause reached ⌝ }
+{
+    let whole = numbers::wide(cause) * 256 + reached;
+    whole as u32
 }

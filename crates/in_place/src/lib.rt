@@ -1,25 +1,15 @@
 // The run over a unit record that is lent and updated in place: `run`; `run_lending` lends it a record of its own. Neither has a
 // requires; a result is 256 times the cause plus the commands reached.
 use chain::call::call;
+use chain::call::result_of;
 use model::device::Device;
 use model::record::Record;
-ghost use mathlib.Core.Path.{_≡_};
-ghost use Prim.Native.Nat.{_≤_};
-ghost use Rattle.model.specs.Host.{resultOf};
 ghost use Rattle.in_place.specs.Run.{InPlace, ByValue};
 
 // What a run gives back by value.
 pub struct Ran {
     pub unit: Record,
     pub code: u32,
-}
-
-fn result_of(cause: u8, reached: usize) -> u32
-    requires { ⌜ reached ≤ 32 ⌝ }
-    ensures { λ r. ⌜ r ≡ resultOf cause reached ⌝ }
-{
-    let whole = numbers::wide(cause) * 256 + reached;
-    whole as u32
 }
 
 // The core, by value.

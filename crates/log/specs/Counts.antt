@@ -1,4 +1,5 @@
 -- The counts of a unit record, as the code carries them while a chain runs.
+--     countsOf                                 the counts of a record
 --     counted                                  a record with these counts
 --     withRead, withWritten, withMovement      n blocks more read, n more written with check, one access movement more
 --     noCounts                                 the counts of a log that was reset
@@ -8,6 +9,9 @@ use Rattle.slices.specs.Parts.{zeros}
 use Rattle.model.specs.declared.record.Record.{Record}
 use Rattle.model.specs.declared.record.Counts.{Counts}
 use Rattle.model.specs.Log.{withCounts, added3, added2}
+
+abbrev pub countsOf : Record → Counts
+countsOf u = record { «blocks_read» = u .«blocks_read»; «blocks_written» = u .«blocks_written»; movements = u .movements }
 
 unfoldable pub counted : Record → Counts → Record
 counted u k = withCounts u (k .«blocks_read») (k .«blocks_written») (k .movements)

@@ -1,5 +1,6 @@
 // What C calls: a chain run, and a unit record set up. include/loughrella.h says it to a C programmer. Neither has a
 // requires: any slices get the result, and are left with the bytes, that the definition says.
+use chain::call::result_of;
 use chain::call::run_allowed;
 use chain::causes::call_cause;
 use model::device::Device;
@@ -26,15 +27,15 @@ pub extern "C" fn loughrella_run(
     let d = Device::class_a();
     let cause = call_cause(d, chain, storage, store, answers);
     if cause != 0 {
-        return cause as u32 * 256;
+        return result_of(cause, 0);
     }
     if unit.len() != sizes::RECORD {
-        return 6 * 256;
+        return result_of(6, 0);
     }
     let ran = run_allowed(d, unpack(unit), chain, storage, store, answers);
     let left = ran.left;
     pack_left(left, unit);
-    ran.reached as u32
+    result_of(0, ran.reached)
 }
 
 // The record of a new unit, ready or not, read-only or not. 0, or 256 times 6.
@@ -43,7 +44,7 @@ pub extern "C" fn loughrella_record(unit: &mut [u8], ready: u8, read_only: u8) -
     ensures { λ r. ⌜ record { result = r; unit = now (unit .exit) } ≡ setUp (now (unit .entry)) ready «read_only» ⌝ }
 {
     if unit.len() != sizes::RECORD {
-        return 6 * 256;
+        return result_of(6, 0);
     }
     pack(new_record(ready, read_only), unit);
     0

@@ -27,7 +27,7 @@ use Rattle.model.specs.Log.{withSense}
 use Rattle.model.specs.Commands.{leaves}
 use Rattle.model.specs.Safe.{Usable, CcwFits, InArea, Safe}
 use Rattle.model.specs.Names.{senseSize}
-use Rattle.log.specs.Counts.{counted}
+use Rattle.log.specs.Counts.{countsOf, counted}
 use Rattle.sense_table.specs.Sensed.{senseBytes}
 use Rattle.unit_state.specs.declared.Running.{Running}
 use Rattle.unit_state.specs.declared.Left.{Left}
@@ -37,7 +37,7 @@ started u = record {
   kept = true;
   defined = false;
   before = Nothing;
-  counts = record { «blocks_read» = u .«blocks_read»; «blocks_written» = u .«blocks_written»; movements = u .movements };
+  counts = countsOf u;
   extent = record { mask = 0; offset = record { 0 = 0 }; first = record { 0 = 0 }; last = record { 0 = 0 } };
   located = record { operation = 0; displacement = record { 0 = 0 }; blocks = 0 };
 }

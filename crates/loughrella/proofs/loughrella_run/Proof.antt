@@ -1,6 +1,5 @@
 -- `loughrella_run` meets its contract: refused by a cause of the call, or by 6 where the record is not 34 bytes, and else the run over the record that they hold. Assumes nothing.
-use mathlib.Core.Path.{_≡_, refl, sym, ap, _∙_}
-use native.Mathlib.Omega.{arith}
+use mathlib.Core.Path.{_≡_, sym, ap, _∙_}
 use borrow.Author.Needs.{needs}
 use Rattle.model.specs.declared.record.Record.{Record}
 use Rattle.model.specs.Rules.{firstOf}
@@ -22,26 +21,26 @@ no-cause c = sym (cause-is (c .before)) ∙ c .if1 .left
 
 returns : tie.Need-returns
 returns c =
-    let args = c .before .before .before .before .before .before .before .before .before .before .before .args in
-    refused-hosted (args .chain .now) (args .storage .now) (args .store .now) (args .unit .now) (args .answers .now) _ _ (cause-is (c .before)) (c .if1 .taken) refl
+    let args = c .before .before .before .before .before .before .before .before .before .before .before .before .args in
+    refused-hosted (args .chain .now) (args .storage .now) (args .store .now) (args .unit .now) (args .answers .now) _ _ (cause-is (c .before .before)) (c .before .if1 .taken) (c .result-of .ensures)
 
 returns-2 : tie.Need-returns-2
 returns-2 c =
-    let args = c .before .before .before .before .before .before .before .before .before .before .before .before .args in
-    six-hosted (args .chain .now) (args .storage .now) (args .store .now) (args .unit .now) (args .answers .now) (no-cause (c .before)) (c .if2 .taken)
+    let args = c .before .before .before .before .before .before .before .before .before .before .before .before .before .args in
+    six-hosted (args .chain .now) (args .storage .now) (args .store .now) (args .unit .now) (args .answers .now) _ (no-cause (c .before .before)) (c .before .if2 .taken) (c .result-of2 .ensures)
 
 run-allowed-requires : tie.Need-run-allowed-requires
 run-allowed-requires c κs =
     let tested = c .before .before .before .before .before .before in
     rw (tested .before .before .before .before .before .class-a .ensures) (class-a-usable, no-cause tested)
 
-cast-result-2 : tie.Need-cast-result-2
-cast-result-2 c =
-    let ran = c .before .before .before .before .before .before .before .before .before .before .before .before in
+result-of-requires-3 : tie.Need-result-of-requires-3
+result-of-requires-3 c κs =
+    let ran = c .before .before .before .before .before .before .before .before .before .before .before in
     let tested = ran .before .before .before .before .before .before .before in
     let args = tested .before .before .before .before .before .before .before .before .before .before .before .args in
     let call = rw (tested .before .before .before .before .before .class-a .ensures) at (ran .run-allowed .ensures .after) in
-    omega (arith, few-hosted (args .chain .now) (args .storage .now) (args .store .now) (args .unit .now) (args .answers .now) _ _ (no-cause tested) call)
+    few-hosted (args .chain .now) (args .storage .now) (args .store .now) (args .unit .now) (args .answers .now) _ _ (no-cause tested) call
 
 returns-3 : tie.Need-returns-3
 returns-3 c =
@@ -51,7 +50,7 @@ returns-3 c =
     let args = tested .before .before .before .before .before .before .before .before .before .before .before .args in
     let call = rw (tested .before .before .before .before .before .class-a .ensures) at (ran .run-allowed .ensures .after) in
     let left = c .before .before .before .pack-left .ensures ∙ ap (λ (u : Record). recordBytes (stateLeft u (ran .run-allowed .result .left) .unit)) (sym (unpack .ensures)) in
-    ran-hosted (args .chain .now) (args .storage .now) (args .store .now) (args .unit .now) (args .answers .now) _ _ _ _ _ _ _ (c .before .before .before .before .before .before .before .before .before .before .before .before .before .before .before .before .before .before .if2 .left) (unpack .ensures) call left
+    ran-hosted (args .chain .now) (args .storage .now) (args .store .now) (args .unit .now) (args .answers .now) _ _ _ _ _ _ _ _ (c .before .before .before .before .before .before .before .before .before .before .before .before .before .before .before .before .before .before .if2 .left) (unpack .ensures) call left (c .result-of3 .ensures)
 
 pub loughrella-run-spec : {M : Type 1} → statement M
 loughrella-run-spec =
@@ -59,13 +58,12 @@ loughrella-run-spec =
     (tie.spec
     (search needs)  -- class-a-requires
     (λ c κs. rw (c .before .before .before .class-a .ensures) class-a-usable)  -- call-cause-requires
-    (search needs)  -- cast-result
-    (search needs)  -- mul-result
+    (search needs)  -- result-of-requires
     (search needs)  -- same-length
     (search needs)  -- same-length-2
     (search needs)  -- same-length-3
     returns
-    (search needs)  -- mul-result-2
+    (search needs)  -- result-of-requires-2
     (search needs)  -- same-length-4
     (search needs)  -- same-length-5
     (search needs)  -- same-length-6
@@ -73,7 +71,7 @@ loughrella-run-spec =
     (search needs)  -- unpack-requires
     run-allowed-requires
     (search needs)  -- pack-left-requires
-    cast-result-2
+    result-of-requires-3
     (search needs)  -- same-length-7
     (search needs)  -- same-length-8
     (search needs)  -- same-length-9

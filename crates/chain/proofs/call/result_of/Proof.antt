@@ -1,9 +1,9 @@
--- `in_place::result_of` meets its contract. Assumes nothing.
+-- `call::result_of` meets its contract. Assumes nothing.
 use native.Mathlib.Omega.{arith}
 use Rattle.model.specs.Host.{resultOf}
 use borrow.Author.Needs.{needs}
-use Rattle.in_place.proofs.result_of.Statement.{statement}
-use Rattle.in_place.proofs.result_of.Tie as tie
+use Rattle.chain.proofs.call.result_of.Statement.{statement}
+use Rattle.chain.proofs.call.result_of.Tie as tie
 
 returns : tie.Need-returns
 unfolding resultOf
