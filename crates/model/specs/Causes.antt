@@ -8,6 +8,8 @@
 --     readIplCauses         40
 --     transferCauses        41, 42             READ and WRITE
 --     kindOf                how a cause ends its command
+--     badChain, otherFlags, leavesStorage, notReady
+--                           rules that contracts cite too, each above its table
 --     causesOf              all the lines that can apply to a command, in order; `verdict` is the first that holds
 -- Where 002 overrules 01 a line says so. Assumes nothing.
 use Prim.Native.Nat.{ℕ, zero, suc, _+_, _/_, _%_}
