@@ -15,7 +15,7 @@ use native.Mathlib.Nat.{mul-le-mul-left, mul-le-mul-right}
 use native.Mathlib.Decide.{decLe}
 use native.Mathlib.Omega.{arith}
 use borrow.Rule.Slice.PartMut.{midOf, putMid}
-use Rattle.slices.specs.Parts.{zeros, part, put, pad}
+use Rattle.slices.specs.Parts.{zeros, put, pad}
 use Rattle.slices.proofs.Laws.{length-part, pad-cleared}
 use Rattle.model.specs.declared.ccw.Ccw.{Ccw}
 use Rattle.model.specs.declared.device.Device.{Device}
@@ -23,7 +23,7 @@ use Rattle.model.specs.Lent.{fetched, delivered, blockStart, blockAt, blocksFro
 use Rattle.model.specs.Safe.{InArea}
 use Rattle.model.proofs.Blocks.{blocks-from-part, take-blocks-more, blocks-into-last}
 use Rattle.storage.specs.Area.{fetchedFrom, deliveredFrom}
-use Rattle.storage.proofs.Laws.{delivered-more, fetched-block}
+use Rattle.storage.proofs.Laws.{fetched-part, delivered-more, fetched-block}
 use Rattle.blocks.specs.Places.{InStore}
 
 pub record Share (size n i from k : ℕ) : Type 0 where
@@ -60,7 +60,7 @@ one-of {dev} {store} {now} {block} {blocks} {i} s h e =
 module _ (dev : Device) (c : Ccw) (main store : List ℕ) (block : ℕ) where
   -- `now` is main storage before block i, `after` behind it
   pub read-turn : (blocks n i from k : ℕ) {now after : List ℕ} → from ≡ i * dev .block → k ≡ min (dev .block) (n - from) → from ≤ n → n ≤ blocks * dev .block
-      → InStore dev store block blocks → c .address ≤ length main
+      → InStore dev store block blocks → InArea c main 0 n
       → now ≡ delivered c main (take from (blocksFrom dev store block blocks)) → after ≡ deliveredFrom c now from (take k (blockAt dev store (block + i)))
       → after ≡ delivered c main (take (from + k) (blocksFrom dev store block blocks))
   read-turn blocks n i from k here bytes l m r a before moved =
@@ -69,7 +69,7 @@ module _ (dev : Device) (c : Ccw) (main store : List ℕ) (block : ℕ) where
       let held : from ≤ length (blocksFrom dev store block blocks) = rw (blocks-from-part dev store block blocks, length-part store (block * dev .block) (blocks * dev .block) (omega (arith, r .inside))) (omega (arith, fits, m)) in
       let sum : take (from + k) (blocksFrom dev store block blocks) ≡ take from (blocksFrom dev store block blocks) ++ take k (blockAt dev store (block + i))
       = rw here (take-blocks-more dev store block blocks i k small (omega (arith, here, fits, m))) in
-      rw before at moved ∙ delivered-more c main _ _ from (sym (length-take-le from _ held)) a ∙ sym (ap (delivered c main) sum)
+      rw before at moved ∙ delivered-more c main _ _ from (sym (length-take-le from _ held)) (omega (arith, a .inside, l)) ∙ sym (ap (delivered c main) sum)
 
   pub store-turn : (n i from k : ℕ) (s : List ℕ) → Share (dev .block) n i from k → s ≡ blocksInto dev store block i (fetched c main n)
       → put s (blockStart dev (block + i)) (pad (dev .block) (fetchedFrom c main from k)) ≡ blocksInto dev store block (i + 1) (fetched c main n)
@@ -78,8 +78,7 @@ module _ (dev : Device) (c : Ccw) (main store : List ℕ) (block : ℕ) where
 -- a block that bytes were fetched into, `b`, and whose rest was cleared and came `back`
 pub filled : (c : Ccw) (main d b back : List ℕ) (from n : ℕ) → b ≡ put d 0 (fetchedFrom c main from n) → back ≡ zeros (length (midOf n (length b - n) b))
     → InArea c main from n → n ≤ length d → putMid n (length b - n) b back ≡ pad (length d) (fetchedFrom c main from n)
-unfolding fetchedFrom
 filled c main d b back from n e f h g =
-    let l : List ℕ = part main (c .address + from) n in
-    let long : length l ≡ n = length-part main (c .address + from) n (omega (arith, h .inside)) in
+    let l : List ℕ = fetchedFrom c main from n in
+    let long : length l ≡ n = ap length (fetched-part c main from n) ∙ length-part main (c .address + from) n (omega (arith, h .inside)) in
     pad-cleared d l b back n (omega (arith, long)) (e ∙ ap (put d 0) (sym (take-all n l (omega (arith, long))))) f

@@ -144,6 +144,11 @@ put-more l at bytes more h =
     rw (take-at front (drop n l) n e, ← drop-drop (length more) n (front ++ drop n l), drop-at front (drop n l) n e, drop-drop, length-append, ← add-assoc) (simp append-assoc)
 
 -- the first byte of a part, and the rest of it
+-- a part put back where it was
+pub put-part : (l : List ℕ) (at n : ℕ) → at + n ≤ length l → put l at (part l at n) ≡ l
+unfolding put
+put-part l at n h = rw (take-part l at n, length-part l at n h) (take-append-drop (at + n) l)
+
 pub part-cons : (l : List ℕ) (at n : ℕ) → at < length l → part l at (suc n) ≡ getD l at 0 ∷ part l (at + 1) n
 unfolding part
 part-cons l at n h = rw (drop-cons l at 0 h, add-one)

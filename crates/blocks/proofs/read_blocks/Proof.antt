@@ -43,7 +43,7 @@ returns c =
     let first = k .before .before .before .before in
     let a = first .args in
     let done : l .from + k .least .result ≡ a .n = omega (arith, k .least .ensures, l .inv .1, c .if1 .taken) in
-    rw done at (read-turn (a .d) (a .c) (a .main .now) (a .store .now) (a .block) (a .blocks) (a .n) (l .i) (l .from) _ (l .inv .0) (k .least .ensures) (l .inv .1) (first .pre .bytes) (first .pre .stored) (omega (arith, first .pre .area .inside)) (l .inv .4) (c .before .before .before .read-block .ensures))
+    rw done at (read-turn (a .d) (a .c) (a .main .now) (a .store .now) (a .block) (a .blocks) (a .n) (l .i) (l .from) _ (l .inv .0) (k .least .ensures) (l .inv .1) (first .pre .bytes) (first .pre .stored) (first .pre .area) (l .inv .4) (c .before .before .before .read-block .ensures))
 
 loop-again : tie.Need-loop-again Inv-loop μ-loop
 loop-again c =
@@ -52,7 +52,7 @@ loop-again c =
     let first = k .before .before .before .before in
     let a = first .args in
     let next = next-within (a .d .block) (a .n) (l .i) (l .from) _ (a .blocks) (l .inv .0) (k .least .ensures) (c .if1 .left) (first .pre .bytes) in
-    let moved = read-turn (a .d) (a .c) (a .main .now) (a .store .now) (a .block) (a .blocks) (a .n) (l .i) (l .from) _ (l .inv .0) (k .least .ensures) (l .inv .1) (first .pre .bytes) (first .pre .stored) (omega (arith, first .pre .area .inside)) (l .inv .4) (c .before .before .before .read-block .ensures) in
+    let moved = read-turn (a .d) (a .c) (a .main .now) (a .store .now) (a .block) (a .blocks) (a .n) (l .i) (l .from) _ (l .inv .0) (k .least .ensures) (l .inv .1) (first .pre .bytes) (first .pre .stored) (first .pre .area) (l .inv .4) (c .before .before .before .read-block .ensures) in
     (next .0, omega (arith, c .if1 .left), next .1, omega (arith, l .inv .3), moved)
 
 pub read-blocks-spec : {M : Type 1} → statement M

@@ -2,12 +2,12 @@
 use borrow.Author.Needs.{needs}
 use Rattle.slices.specs.Parts.{part}
 use Rattle.slices.proofs.Laws.{rest-lent}
-use Rattle.storage.specs.Area.{fetchedFrom}
+use Rattle.storage.proofs.Laws.{fetched-part}
 use Rattle.storage.proofs.fetch.Statement.{statement}
 use Rattle.storage.proofs.fetch.Tie as tie
 
 pub fetch-spec : {M : Type 1} → statement M
-unfolding fetchedFrom part
+unfolding part
 fetch-spec = tie.close (tie.spec
     (search needs)  -- add-at
     (search needs)  -- sub-copy
@@ -15,4 +15,4 @@ fetch-spec = tie.close (tie.spec
     (search needs)  -- part-copy-end
     (search needs)  -- copy-requires
     (search needs)  -- same-length
-    (λ c. rw rest-lent at (c .before .before .copy .ensures)))  -- returns
+    (λ c. rw (fetched-part, ← rest-lent) (c .before .before .copy .ensures)))  -- returns
