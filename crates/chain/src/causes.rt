@@ -1,12 +1,10 @@
 // The causes that refuse a call before any command: 1 to 5. The way in is `call_cause`, which is 0 where the chain may run.
 ghost use mathlib.Core.Path.{_≡_};
-ghost use mathlib.Core.Bool.{not, _||_};
-ghost use Prim.Native.Nat.{_/_, _%_, _≤_};
-ghost use lib.Dec.{ltb, eqb};
+ghost use Prim.Native.Nat.{_/_};
 ghost use lib.ListN.{length};
 ghost use Rattle.model.specs.Rules.{firstOf};
 ghost use Rattle.model.specs.Lent.{ccwSize};
-ghost use Rattle.model.specs.Causes.{allChained, badChain, callCauses};
+ghost use Rattle.model.specs.Causes.{allChained, badChain, badStore, callCauses};
 ghost use Rattle.model.specs.Safe.{Usable};
 use channel::ccw::ccw_at;
 use model::device::Device;
@@ -26,17 +24,18 @@ fn chain_wrong(len: usize) -> bool
 }
 
 // No block, a part of one, or more than 131,072.
-fn store_wrong(size: usize, len: usize) -> bool
-    requires { ⌜ 1 ≤ size ⌝ }
-    ensures { λ r. ⌜ r ≡ (eqb len 0 || not (eqb (len % size) 0) || ltb 131072 (len / size)) ⌝ }
+fn store_wrong(d: Device, store: &[u8]) -> bool
+    requires { ⌜ Usable d ⌝ }
+    ensures { λ r. ⌜ r ≡ badStore d (now (store .entry)) ⌝ }
 {
+    let len = store.len();
     if len == 0 {
         return true;
     }
-    if len % size != 0 {
+    if len % d.block != 0 {
         return true;
     }
-    sizes::BLOCKS_LIMIT < len / size
+    sizes::BLOCKS_LIMIT < len / d.block
 }
 
 // Each CCW has flag 40, so no CCW is the chain's last.
@@ -63,7 +62,7 @@ pub fn call_cause(d: Device, chain: &[u8], main: &[u8], store: &[u8], answers: &
     if chain_wrong(chain.len()) {
         return 1;
     }
-    if store_wrong(d.block, store.len()) {
+    if store_wrong(d, store) {
         return 2;
     }
     if sizes::STORAGE_LIMIT < main.len() {

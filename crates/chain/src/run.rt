@@ -1,6 +1,7 @@
 // The run of a chain: one turn for each command reached, until one of them ends it.
 use channel::ccw::ccw_at;
 use endings::Answer;
+use model::answer;
 use model::ccw::Ccw;
 use model::device::Device;
 use model::record::Record;
@@ -44,7 +45,7 @@ fn put_answer(answers: &mut [u8], i: usize, a: Answer, wrong: bool)
     let back = numbers::bytes4(a.back);
     put_at(answers, at, &front, 4);
     put_at(answers, at + 4, &back, 4);
-    mark(answers, at + 1, wrong);
+    mark(answers, at + answer::CHANNEL_STATUS, wrong);
 }
 
 // "A refusal ends the chain", a wrong length ends it, and so does a CCW without flag 40.

@@ -2,16 +2,13 @@
 use model::ccw::Ccw;
 use model::command;
 ghost use mathlib.Core.Path.{_≡_};
-ghost use mathlib.Core.List.{[], _∷_};
-ghost use Prim.Native.Nat.{_%_};
-ghost use Rattle.numbers.specs.Choice.{oneOf};
 ghost use Rattle.model.specs.Rules.{firstOf};
-ghost use Rattle.model.specs.Causes.{leavesStorage, channelCauses};
+ghost use Rattle.model.specs.Causes.{noCommand, leavesStorage, channelCauses};
 ghost use Rattle.model.specs.Safe.{CcwFits};
 
 // The low four bits are 0 or 8: to the channel, no command.
 fn no_command(command: u8) -> bool
-    ensures { λ r. ⌜ r ≡ oneOf (0 ∷ 8 ∷ []) (command % 16) ⌝ }
+    ensures { λ r. ⌜ r ≡ noCommand command ⌝ }
 {
     command & 0x07 == 0
 }

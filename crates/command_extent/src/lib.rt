@@ -15,18 +15,14 @@ use storage::fetch;
 use unit_state::Running;
 use unit_state::extent_set;
 ghost use mathlib.Core.Path.{_≡_};
-ghost use mathlib.Core.Bool.{not, _&&_, _||_};
-ghost use mathlib.Core.List.{[], _∷_};
 ghost use Prim.Native.Nat.{_≤_};
-ghost use lib.Dec.{eqb, ltb};
 ghost use lib.ListN.{length};
-ghost use Rattle.numbers.specs.Bits.{bit, anyBit};
-ghost use Rattle.numbers.specs.Choice.{oneOf};
+ghost use Rattle.numbers.specs.Bits.{bit};
 ghost use Rattle.model.specs.Rules.{firstOf};
-ghost use Rattle.model.specs.Causes.{extentCauses};
+ghost use Rattle.model.specs.Causes.{badMask, otherSize, pastDevice, extentCauses};
 ghost use Rattle.model.specs.declared.record.Record.{Record};
 ghost use Rattle.model.specs.Names.{DEFINE-EXTENT};
-ghost use Rattle.model.specs.Parameters.{extentLength, extentIn, address};
+ghost use Rattle.model.specs.Parameters.{extentLength, extentIn};
 ghost use Rattle.model.specs.Commands.{performed};
 ghost use Rattle.model.specs.Safe.{CcwFits};
 ghost use Rattle.unit_state.specs.Standing.{stateOf, Sound, Handed};
@@ -59,7 +55,7 @@ impl Defined {
 
 // Mask bits 0-1 are 10, or one of bits 2, 3, 6, 7 is one, or byte 1 is not zero.
 fn mask_wrong(mask: u8, reserved: u8) -> bool
-    ensures { λ r. ⌜ r ≡ ((bit mask 0 && not (bit mask 1)) || anyBit mask (2 ∷ 3 ∷ 6 ∷ 7 ∷ []) || not (eqb reserved 0)) ⌝ }
+    ensures { λ r. ⌜ r ≡ badMask mask reserved ⌝ }
 {
     let kind = mask >> 6;
     if kind == 2 {
@@ -79,13 +75,13 @@ fn maintenance(mask: u8) -> bool
 }
 
 // Neither zero, which stands for the device's own, nor the device's own.
-fn size_wrong(field: usize, size: usize) -> bool
-    ensures { λ r. ⌜ r ≡ not (oneOf (0 ∷ size ∷ []) field) ⌝ }
+fn size_wrong(d: Device, size: usize) -> bool
+    ensures { λ r. ⌜ r ≡ otherSize d size ⌝ }
 {
-    if field == 0 {
+    if size == 0 {
         return false;
     }
-    field != size
+    size != d.block
 }
 
 fn extent_in(p: &[u8]) -> Extent
@@ -103,7 +99,7 @@ fn extent_in(p: &[u8]) -> Extent
 // The last block of the extent is not one of the device's.
 fn past_device(e: Extent, blocks: usize) -> bool
     requires { ⌜ e .first .0 ≤ e .last .0 ⌝ }
-    ensures { λ r. ⌜ r ≡ not (ltb (address e (e .last)) blocks) ⌝ }
+    ensures { λ r. ⌜ r ≡ pastDevice e blocks ⌝ }
 {
     let last = e.last;
     let end = e.address(last);
@@ -122,7 +118,7 @@ fn define_parameters(d: Device, blocks: usize, p: &[u8]) -> Defined
     if maintenance(p[0]) {
         return Defined::Maintenance;
     }
-    if size_wrong(numbers::be2(p, 2), d.block) {
+    if size_wrong(d, numbers::be2(p, 2)) {
         return Defined::BadSize;
     }
     if e.last.0 < e.first.0 {

@@ -16,19 +16,16 @@ use storage::fetch;
 use unit_state::Running;
 use unit_state::locate_set;
 ghost use mathlib.Core.Path.{_≡_};
-ghost use mathlib.Core.Bool.{not, _&&_, _||_};
-ghost use mathlib.Core.List.{List, [], _∷_};
-ghost use Prim.Native.Nat.{ℕ, _%_, _≤_, _<_};
-ghost use lib.Dec.{eqb, ltb};
+ghost use mathlib.Core.List.{List};
+ghost use Prim.Native.Nat.{ℕ, _≤_, _<_};
 ghost use lib.ListN.{length};
-ghost use Rattle.numbers.specs.Bits.{anyBit};
-ghost use Rattle.numbers.specs.Choice.{pick, oneOf};
+ghost use Rattle.numbers.specs.Choice.{oneOf};
 ghost use Rattle.model.specs.declared.device.Device.{Device};
-ghost use Rattle.model.specs.Names.{LOCATE, format, read-replicated};
+ghost use Rattle.model.specs.Names.{LOCATE};
 ghost use Rattle.model.specs.Rules.{firstOf};
 ghost use Rattle.model.specs.Lent.{fetched};
-ghost use Rattle.model.specs.Parameters.{locateLength, locatedIn, operations, writes, forbids, outside};
-ghost use Rattle.model.specs.Causes.{locationCauses, permissionCauses};
+ghost use Rattle.model.specs.Parameters.{locateLength, locatedIn, processed, operations, forbids, outside};
+ghost use Rattle.model.specs.Causes.{badModifiers, badCount, badReplication, inhibits, locationCauses, permissionCauses};
 ghost use Rattle.model.specs.Sense.{shown};
 ghost use Rattle.model.specs.Commands.{performed};
 ghost use Rattle.unit_state.specs.Standing.{stateOf, Handed};
@@ -67,7 +64,7 @@ impl Location {
 
 // One of modifier bits 0 to 2 is one. Bit 3 is not used.
 fn modifier_wrong(byte: u8) -> bool
-    ensures { λ r. ⌜ r ≡ anyBit byte (0 ∷ 1 ∷ 2 ∷ []) ⌝ }
+    ensures { λ r. ⌜ r ≡ badModifiers byte ⌝ }
 {
     byte & 0xE0 != 0
 }
@@ -99,7 +96,7 @@ fn is_operation(code: u32) -> bool
 
 // No block, or a format of other than one.
 fn count_wrong(l: Located) -> bool
-    ensures { λ r. ⌜ r ≡ (eqb (l .blocks) 0 || (eqb (l .operation) format && not (eqb (l .blocks) 1))) ⌝ }
+    ensures { λ r. ⌜ r ≡ badCount l ⌝ }
 {
     if l.blocks == 0 {
         return true;
@@ -113,7 +110,7 @@ fn count_wrong(l: Located) -> bool
 // A replicated read whose range is not made of whole units.
 fn replication_wrong(l: Located, replication: usize) -> bool
     requires { ⌜ (l .blocks ≡ 0 → ⊥) ⌝ }
-    ensures { λ r. ⌜ r ≡ (eqb (l .operation) read-replicated && (ltb replication (l .blocks) || not (eqb (replication % l .blocks) 0))) ⌝ }
+    ensures { λ r. ⌜ r ≡ badReplication l replication ⌝ }
 {
     if l.operation != operation::READ_REPLICATED {
         return false;
@@ -127,7 +124,7 @@ fn replication_wrong(l: Located, replication: usize) -> bool
 
 // As many blocks as the LOCATE has to hold against the extent.
 fn blocks_processed(l: Located, replication: usize) -> usize
-    ensures { λ r. ⌜ r ≡ pick (eqb (l .operation) read-replicated) replication (l .blocks) ⌝ }
+    ensures { λ r. ⌜ r ≡ processed l replication ⌝ }
 {
     if l.operation == operation::READ_REPLICATED {
         replication
@@ -166,7 +163,7 @@ fn mask_forbids(mask: u32, operation: u32) -> bool
 
 // The unit is read-only, and the operation writes or formats.
 fn write_inhibited(read_only: u8, code: u32) -> bool
-    ensures { λ r. ⌜ r ≡ (not (eqb «read_only» 0) && (writes code || eqb code format)) ⌝ }
+    ensures { λ r. ⌜ r ≡ inhibits «read_only» code ⌝ }
 {
     if read_only == 0 {
         return false;

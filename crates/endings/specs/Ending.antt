@@ -17,7 +17,7 @@ use Rattle.model.specs.declared.ccw.Ccw.{Ccw}
 use Rattle.model.specs.declared.kind.Kind.{Kind}
 use Rattle.model.specs.declared.kind.Kind.the-variants.{Accepted, ProgramCheck, UnitCheck}
 use Rattle.model.specs.declared.record.Record.{Record}
-use Rattle.model.specs.Names.{NO-OPERATION, INCORRECT-LENGTH}
+use Rattle.model.specs.Names.{NO-OPERATION, INCORRECT-LENGTH, channel-status-at}
 use Rattle.model.specs.Lent.{fetched}
 use Rattle.model.specs.Parameters.{locateLength}
 use Rattle.model.specs.Causes.{kindOf}
@@ -39,9 +39,9 @@ answerWords kind left cause blocks = record { front = (unitStatus kind * 256 + c
 abbrev pub answerBytes : Answer → List ℕ
 answerBytes a = bytes4 (a .front) ++ bytes4 (a .back)
 
--- the channel marks a wrong length in byte 1
+-- the channel marks a wrong length in its status
 abbrev pub marked : Bool → List ℕ → List ℕ
-marked true answer = set answer 1 INCORRECT-LENGTH
+marked true answer = set answer channel-status-at INCORRECT-LENGTH
 marked false answer = answer
 
 abbrev pub wrongBy : Kind → Ccw → ℕ → Bool

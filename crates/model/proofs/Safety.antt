@@ -19,7 +19,7 @@ use Rattle.model.specs.declared.device.Device.{Device}
 use Rattle.model.specs.State.{State}
 use Rattle.numbers.specs.Choice.{_<?_}
 use Rattle.model.specs.Lent.{blockCount}
-use Rattle.model.specs.Parameters.{extentLength, extentIn, locateLength, locatedIn, processed, address, outside}
+use Rattle.model.specs.Parameters.{extentLength, extentIn, locateLength, locatedIn, replicationIn, processed, address, outside}
 use Rattle.model.specs.Causes.{extentCauses, defineExtentCauses, permissionCauses, locationCauses, locateCauses, transferCauses, a-locate, kindOf}
 use Rattle.model.specs.Commands.{after, extentSet, locateSet, noOperation, defineExtent, locate, sent, sense, senseType, readLog, read, write, wholeDevice, readIpl, senseGiven, refused, refusal, seen, step, defineDone, iplDone, locateDone, readDone, writeDone}
 use Rattle.model.specs.Safe.{Usable, OnDevice, InExtent, Safe}
@@ -53,7 +53,7 @@ pub record LocateOk (c : Ccw) (s : State) (l : Located) : Type 0 where
   pub placed : InExtent (s .extent) l
 
 -- a replicated read processes at least the blocks of one unit
-processed-covers : (c : Ccw) (s : State) (p : List ℕ) → Failed (locateCauses c s p) → locatedIn p .blocks ≤ processed p
+processed-covers : (c : Ccw) (s : State) (p : List ℕ) → Failed (locateCauses c s p) → locatedIn p .blocks ≤ processed (locatedIn p) (replicationIn p)
 unfolding locateCauses locationCauses permissionCauses processed
 processed-covers c s p f =
     pick-ind (λ (n : ℕ). locatedIn p .blocks ≤ n) _ _ _
@@ -65,8 +65,8 @@ unfolding locateCauses locationCauses permissionCauses outside
 locate-ok c s p f =
     let k = processed-covers c s p f in
     let n = eqb-false (locatedIn p .blocks) 0 (either-false _ _ (f .1 .1 .1 .1 .0) .0) in
-    let o = either-false (locatedIn p .displacement .0 <? s .extent .first .0) (s .extent .last .0 + 1 <? locatedIn p .displacement .0 + processed p) (f .1 .1 .1 .1 .1 .1 .0) in
-    let h : locatedIn p .displacement .0 + processed p ≤ s .extent .last .0 + 1 = ltb-false _ _ (o .1) in
+    let o = either-false (locatedIn p .displacement .0 <? s .extent .first .0) (s .extent .last .0 + 1 <? locatedIn p .displacement .0 + processed (locatedIn p) (replicationIn p)) (f .1 .1 .1 .1 .1 .1 .0) in
+    let h : locatedIn p .displacement .0 + processed (locatedIn p) (replicationIn p) ≤ s .extent .last .0 + 1 = ltb-false _ _ (o .1) in
     record {
       defined = not-false _ (f .0);
       long = ltb-false _ _ (f .1 .0);

@@ -40,7 +40,7 @@ channelStatus c d = channelBy (kindOf (d .cause)) (wrongLength c (d .can))
 unfoldable pub residual : Ccw → Done → ℕ
 residual c d = c .count - d .moved
 
--- unit status, channel status, residual count (2), cause, zero, blocks moved (2)
+-- unit status, channel status, residual count (2), cause, zero, blocks moved (2); where each stands has a name (Names)
 abbrev pub answerSize : ℕ
 answerSize = 8
 

@@ -8,8 +8,8 @@
 --     readIplCauses         40
 --     transferCauses        41, 42             READ and WRITE
 --     kindOf                how a cause ends its command
---     badChain, otherFlags, leavesStorage, notReady
---                           rules that contracts cite too, each above its table
+--     badChain, badStore, noCommand and their like
+--                           rules of more than one test, each above its table; contracts cite them
 --     causesOf              all the lines that can apply to a command, in order; `verdict` is the first that holds
 -- Where 002 overrules 01 a line says so. Assumes nothing.
 use Prim.Native.Nat.{ℕ, zero, suc, _+_, _/_, _%_}
@@ -19,6 +19,7 @@ use lib.ListN.{length}
 use Rattle.numbers.specs.Bits.{bit, anyBit}
 use Rattle.model.specs.declared.ccw.Ccw.{Ccw}
 use Rattle.model.specs.declared.device.Device.{Device}
+use Rattle.model.specs.declared.extent.Extent.{Extent}
 use Rattle.model.specs.declared.extent.Located.{Located}
 use Rattle.model.specs.declared.kind.Kind.{Kind}
 use Rattle.model.specs.declared.kind.Kind.the-variants.{Accepted, ProgramCheck, UnitCheck}
@@ -52,10 +53,14 @@ allChained chain (suc n) = flag (ccwAt chain n) chain-command && allChained chai
 abbrev pub badChain : ℕ → Bool
 badChain held = held =? 0 || 256 <? held || not (held % ccwSize =? 0)
 
+-- no block, a part of one, or more than 131,072
+abbrev pub badStore : Device → List ℕ → Bool
+badStore dev store = length store =? 0 || not (length store % dev .block =? 0) || 131072 <? blockCount dev store
+
 unfoldable pub callCauses : Device → List ℕ → List ℕ → List ℕ → List ℕ → List Rule
 callCauses dev chain main store answers =
     1 when badChain (length chain)
-    ∷ 2 when (length store =? 0 || not (length store % dev .block =? 0) || 131072 <? blockCount dev store)
+    ∷ 2 when badStore dev store
     ∷ 3 when (16777216 <? length main)
     ∷ 4 when (length answers <? length chain)
     ∷ 5 when allChained chain (length chain / ccwSize)
@@ -65,6 +70,10 @@ unfoldable pub hostCauses : Device → List ℕ → List ℕ → List ℕ → Li
 hostCauses dev chain main store unit answers = callCauses dev chain main store answers ++ (6 when not (length unit =? recordSize) ∷ [])
 
 -- the channel: 10 to 13 are program checks, and the unit does not see the command
+
+-- the low four bits are 0 or 8
+abbrev pub noCommand : ℕ → Bool
+noCommand command = oneOf (0 ∷ 8 ∷ []) (command % 16)
 
 -- a flag other than 40 and 20
 abbrev pub otherFlags : ℕ → Bool
@@ -76,7 +85,7 @@ leavesStorage c held = not (c .command =? NO-OPERATION) && held <? c .address + 
 
 unfoldable pub channelCauses : Ccw → List ℕ → List Rule
 channelCauses c main =
-    13 when oneOf (0 ∷ 8 ∷ []) (c .command % 16)
+    13 when noCommand (c .command)
     ∷ 10 when otherFlags (c .flags .0)
     ∷ 11 when (c .count =? 0)
     ∷ 12 when leavesStorage c (length main)
@@ -99,14 +108,26 @@ unitCauses c s =
 
 -- DEFINE EXTENT: whether it may stand here, then what its parameters say on a device of so many blocks
 
+-- bits 0-1 are 10, or one of bits 2, 3, 6, 7 is one, or the byte after the mask is not zero
+abbrev pub badMask : ℕ → ℕ → Bool
+badMask mask reserved = (bit mask 0 && not (bit mask 1)) || anyBit mask (2 ∷ 3 ∷ 6 ∷ 7 ∷ []) || not (reserved =? 0)
+
+-- neither zero nor the device's own
+abbrev pub otherSize : Device → ℕ → Bool
+otherSize dev size = not (oneOf (0 ∷ dev .block ∷ []) size)
+
+-- the extent's last block is not one of the device's
+abbrev pub pastDevice : Extent → ℕ → Bool
+pastDevice e blocks = not (address e (e .last) <? blocks)
+
 unfoldable pub extentCauses : Device → ℕ → List ℕ → List Rule
 extentCauses dev blocks p =
     let e = extentIn p in
-    22 when ((bit (e .mask) 0 && not (bit (e .mask) 1)) || anyBit (e .mask) (2 ∷ 3 ∷ 6 ∷ 7 ∷ []) || not (reservedIn p =? 0))
+    22 when badMask (e .mask) (reservedIn p)
     ∷ 23 when bit (e .mask) 4
-    ∷ 24 when not (oneOf (0 ∷ dev .block ∷ []) (sizeIn p))
+    ∷ 24 when otherSize dev (sizeIn p)
     ∷ 25 when (e .last .0 <? e .first .0)
-    ∷ 26 when not (address e (e .last) <? blocks)
+    ∷ 26 when pastDevice e blocks
     ∷ []
 
 unfoldable pub defineExtentCauses : Device → ℕ → Ccw → State → List ℕ → List Rule
@@ -116,24 +137,42 @@ defineExtentCauses dev blocks c s p =
     ∷ extentCauses dev blocks p
 
 -- LOCATE: whether it may stand here, what its parameters say, then whether extent, mask, switch and alternates allow n blocks so
--- 32: 002, 2.1.4, ignores modifier bit 3 where there is no untagged DEVICE END
+
+-- the unit is read-only, and the operation writes or formats
+abbrev pub inhibits : ℕ → ℕ → Bool
+inhibits switch operation = not (switch =? 0) && (writes operation || operation =? format)
 
 unfoldable pub permissionCauses : State → Located → ℕ → List Rule
 permissionCauses s l n =
     36 when outside (s .extent) (l .displacement) n
     ∷ 37 when forbids (s .extent .mask) (l .operation)
-    ∷ 38 when (not (s .unit .«read_only» =? 0) && (writes (l .operation) || l .operation =? format))
+    ∷ 38 when inhibits (s .unit .«read_only») (l .operation)
     ∷ 39 when (l .operation =? format)
     ∷ []
 
-unfoldable pub locationCauses : State → List ℕ → List Rule
-locationCauses s p =
-    let l = locatedIn p in
-    32 when anyBit (modifiersIn p) (0 ∷ 1 ∷ 2 ∷ [])
+-- 002, 2.1.4, ignores modifier bit 3 where there is no untagged DEVICE END
+abbrev pub badModifiers : ℕ → Bool
+badModifiers byte = anyBit byte (0 ∷ 1 ∷ 2 ∷ [])
+
+-- no block, or a format of other than one
+abbrev pub badCount : Located → Bool
+badCount l = l .blocks =? 0 || (l .operation =? format && not (l .blocks =? 1))
+
+-- a replicated read whose range is not made of whole units
+abbrev pub badReplication : Located → ℕ → Bool
+badReplication l replication = l .operation =? read-replicated && (replication <? l .blocks || not (replication % l .blocks =? 0))
+
+-- by the byte of its modifiers, what it locates, and its replication count
+abbrev pub locationRules : State → ℕ → Located → ℕ → List Rule
+locationRules s modifiers l replication =
+    32 when badModifiers modifiers
     ∷ 33 when not (oneOf operations (l .operation))
-    ∷ 34 when (l .blocks =? 0 || (l .operation =? format && not (l .blocks =? 1)))
-    ∷ 35 when (l .operation =? read-replicated && (replicationIn p <? l .blocks || not (replicationIn p % l .blocks =? 0)))
-    ∷ permissionCauses s l (processed p)
+    ∷ 34 when badCount l
+    ∷ 35 when badReplication l replication
+    ∷ permissionCauses s l (processed l replication)
+
+unfoldable pub locationCauses : State → List ℕ → List Rule
+locationCauses s p = locationRules s (modifiersIn p) (locatedIn p) (replicationIn p)
 
 unfoldable pub locateCauses : Ccw → State → List ℕ → List Rule
 locateCauses c s p =

@@ -62,6 +62,20 @@ PROGRAM-CHECK = 0x20
 abbrev pub INCORRECT-LENGTH : ℕ
 INCORRECT-LENGTH = 0x40
 
+-- places in an answer
+
+abbrev pub channel-status-at : ℕ
+channel-status-at = 1
+
+abbrev pub residual-at : ℕ
+residual-at = 2
+
+abbrev pub cause-at : ℕ
+cause-at = 4
+
+abbrev pub blocks-at : ℕ
+blocks-at = 6
+
 -- operations of a LOCATE
 
 abbrev pub format : ℕ

@@ -48,8 +48,8 @@ unfoldable pub replicationIn : List ℕ → ℕ
 replicationIn p = getD p 1 0
 
 -- "The blocks processed are as many as the block count, or as the replication count for operation 2"
-unfoldable pub processed : List ℕ → ℕ
-processed p = pick (locatedIn p .operation =? read-replicated) (replicationIn p) (locatedIn p .blocks)
+unfoldable pub processed : Located → ℕ → ℕ
+processed l replication = pick (l .operation =? read-replicated) replication (l .blocks)
 
 -- the five operations; which of them a READ may follow, and which a WRITE
 

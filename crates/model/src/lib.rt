@@ -1,4 +1,5 @@
 // The unit's own types. What they mean stands in specs/, the unit as a definition.
+pub mod answer;
 pub mod ccw;
 pub mod command;
 pub mod device;

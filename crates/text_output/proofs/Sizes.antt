@@ -10,6 +10,7 @@ use Rattle.numbers.specs.Bytes.{AreBytes}
 use Rattle.numbers.specs.Big.{be2}
 use Rattle.numbers.proofs.Bytes.{byte-at}
 use Rattle.model.specs.Answer.{answerSize}
+use Rattle.model.specs.Names.{residual-at, cause-at, blocks-at}
 use Rattle.text_digits.specs.Digits.{ascii, decimal, sixDigits, hex}
 use Rattle.text_digits.proofs.Numbers.{decimal-short}
 use Rattle.text_output.specs.Printout.{line, refusedLine, statusLines, countLines, commandLines, printoutOf}
@@ -50,9 +51,9 @@ count-within : (answers : List ℕ) (i : ℕ) → AreBytes answers → Within (c
 unfolding countLines
 count-within answers i b =
     let at : ℕ = i * answerSize in
-    number-within (ascii "residual=") _ (be2-below answers (at + 2) b)
-    with number-within (ascii "why=") _ (omega (arith, byte-at answers (at + 4) b))
-    with number-within (ascii "blocks=") _ (be2-below answers (at + 6) b)
+    number-within (ascii "residual=") _ (be2-below answers (at + residual-at) b)
+    with number-within (ascii "why=") _ (omega (arith, byte-at answers (at + cause-at) b))
+    with number-within (ascii "blocks=") _ (be2-below answers (at + blocks-at) b)
 
 commands-within : (answers : List ℕ) (n : ℕ) → n ≤ 32 → AreBytes answers → Within (commandLines answers n) (n * 73)
 unfolding commandLines

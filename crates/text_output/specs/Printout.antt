@@ -11,6 +11,7 @@ use mathlib.Core.List.{List, [], _∷_, _++_}
 use lib.ListN.{getD}
 use Rattle.numbers.specs.Big.{be2}
 use Rattle.model.specs.Answer.{answerSize}
+use Rattle.model.specs.Names.{channel-status-at, residual-at, cause-at, blocks-at}
 use Rattle.model.specs.Chain.{Called}
 use Rattle.text_digits.specs.Digits.{ascii, decimal, hex}
 
@@ -30,14 +31,14 @@ statusLines answers i =
     let at = i * answerSize in
     line (ascii "command=") (decimal (i + 1))
     ++ line (ascii "status=") (hex (getD answers at 0 ∷ []))
-    ++ line (ascii "channel=") (hex (getD answers (at + 1) 0 ∷ []))
+    ++ line (ascii "channel=") (hex (getD answers (at + channel-status-at) 0 ∷ []))
 
 unfoldable pub countLines : List ℕ → ℕ → List ℕ
 countLines answers i =
     let at = i * answerSize in
-    line (ascii "residual=") (decimal (be2 answers (at + 2)))
-    ++ line (ascii "why=") (decimal (getD answers (at + 4) 0))
-    ++ line (ascii "blocks=") (decimal (be2 answers (at + 6)))
+    line (ascii "residual=") (decimal (be2 answers (at + residual-at)))
+    ++ line (ascii "why=") (decimal (getD answers (at + cause-at) 0))
+    ++ line (ascii "blocks=") (decimal (be2 answers (at + blocks-at)))
 
 unfoldable pub commandLines : List ℕ → ℕ → List ℕ
 commandLines answers zero = []

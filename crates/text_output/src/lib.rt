@@ -1,4 +1,5 @@
 // What is printed of a call (`print`), and of an input with a wrong line (`print_refused`). A line goes to the output as far as it fits.
+use model::answer;
 use model::sizes;
 use text_digits::add;
 use text_digits::add_decimal;
@@ -37,7 +38,7 @@ fn status_lines(out: &mut [u8], at: usize, answers: &[u8], i: usize) -> usize
     ensures { λ r. ⌜ Adds (now (out .entry)) at (statusLines (now (answers .entry)) i) r (now (out .exit)) ⌝ }
 {
     let status = [answers[i * sizes::ANSWER]];
-    let channel = [answers[i * sizes::ANSWER + 1]];
+    let channel = [answers[i * sizes::ANSWER + answer::CHANNEL_STATUS]];
     let numbered = number_line(out, at, b"command=", i + 1);
     let shown = bytes_line(out, numbered, b"status=", &status);
     bytes_line(out, shown, b"channel=", &channel)
@@ -48,9 +49,9 @@ fn count_lines(out: &mut [u8], at: usize, answers: &[u8], i: usize) -> usize
     requires { ⌜ i * answerSize + answerSize ≤ length (now answers) ⌝ }
     ensures { λ r. ⌜ Adds (now (out .entry)) at (countLines (now (answers .entry)) i) r (now (out .exit)) ⌝ }
 {
-    let residual = numbers::be2(answers, i * sizes::ANSWER + 2);
-    let cause = numbers::wide(answers[i * sizes::ANSWER + 4]);
-    let blocks = numbers::be2(answers, i * sizes::ANSWER + 6);
+    let residual = numbers::be2(answers, i * sizes::ANSWER + answer::RESIDUAL);
+    let cause = numbers::wide(answers[i * sizes::ANSWER + answer::CAUSE]);
+    let blocks = numbers::be2(answers, i * sizes::ANSWER + answer::BLOCKS);
     let left = number_line(out, at, b"residual=", residual);
     let why = number_line(out, left, b"why=", cause);
     number_line(out, why, b"blocks=", blocks)

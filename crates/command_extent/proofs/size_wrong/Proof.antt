@@ -9,4 +9,4 @@ pub size-wrong-spec : {M : Type 1} → statement M
 unfolding oneOf
 size-wrong-spec = tie.close (tie.spec
     (λ c. simp (eq-eqb _ _ (c .if1 .taken)))  -- returns
-    (λ c. simp (ne-eqb _ _ (c .if1 .left), or-false)))  -- returns-2
+    (λ c. simp (ne-eqb _ _ (c .before .if1 .left), or-false)))  -- returns-2

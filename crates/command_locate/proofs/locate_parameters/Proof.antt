@@ -8,12 +8,12 @@ use borrow.Author.Tests.{eqb-false, not-false}
 use Rattle.model.specs.State.{State}
 use Rattle.model.specs.Rules.{Rule, firstOf}
 use Rattle.model.specs.Parameters.{modifiersIn, replicationIn}
-use Rattle.model.specs.Causes.{locationCauses, permissionCauses}
+use Rattle.model.specs.Causes.{locationCauses, locationRules, permissionCauses}
 use Rattle.numbers.proofs.Joined.{either-false}
 use Rattle.model.proofs.Verdicts.{first-here, first-later}
 use Rattle.unit_state.specs.Standing.{stateOf}
 use Rattle.command_locate.proofs.Tests.{eight, operation-low}
-use Rattle.command_locate.proofs.Locations.{locationLines, location-lines, processed-small}
+use Rattle.command_locate.proofs.Locations.{location-lines, processed-small}
 use Rattle.command_locate.proofs.locate_parameters.Statement.{statement}
 use Rattle.command_locate.proofs.locate_parameters.Tie as tie
 
@@ -21,7 +21,7 @@ abbrev state : tie.Start → State
 state c = stateOf (c .args .u) (c .args .s)
 
 abbrev lines : tie.After-wide → List Rule
-lines c = locationLines (state (c .before .before .before .before)) (modifiersIn (c .before .before .before .before .args .p .now)) (c .before .before .located-in .result) (c .wide .result)
+lines c = locationRules (state (c .before .before .before .before)) (modifiersIn (c .before .before .before .before .args .p .now)) (c .before .before .located-in .result) (c .wide .result)
 
 -- the first k lines do not give the verdict
 abbrev Past : ℕ → tie.After-wide → Type 0
