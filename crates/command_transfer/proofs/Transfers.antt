@@ -28,7 +28,7 @@ use Rattle.model.specs.Names.{write-check, READ, WRITE, READ-IPL}
 use Rattle.model.specs.Rules.{firstOf}
 use Rattle.model.specs.Lent.{fetched, delivered, blockCount, blocksFrom, blocksInto}
 use Rattle.model.specs.Parameters.{locateLength, address, reads, writes}
-use Rattle.model.specs.Causes.{a-locate, transferCauses, readIplCauses}
+use Rattle.model.specs.Causes.{a-locate, transferRules, transferCauses, readIplCauses}
 use Rattle.model.specs.Log.{writtenCounted}
 use Rattle.model.specs.Safe.{Usable, CcwFits}
 use Rattle.model.specs.Commands.{Out, ended, decided, after, cleared, begun, readDone, read, writeDone, write, wholeDevice, iplDone, readIpl, performed}
@@ -92,10 +92,10 @@ pub record Passed (follows : ℕ → Bool) (dev : Device) (c : Ccw) (s : Running
 
 -- `f` is what the code asked, whether the command may follow the operation; w is the cause that it then found
 module _ {follows : ℕ → Bool} {dev : Device} {c : Ccw} {s : Running} {main store : List ℕ} (t : Transfer follows dev c s main store) {f : Bool} (located : f ≡ follows (s .located .operation))
-    {w : ℕ} (found : (u : Record) → w ≡ firstOf (transferCauses (λ _. f) (stateOf u s))) where
+    {w : ℕ} (found : w ≡ firstOf (transferRules (s .before) f)) where
   given : (u : Record) → firstOf (transferCauses follows (stateOf u s)) ≡ w
   unfolding transferCauses stateOf
-  given u = rw (← located) (sym (found u))
+  given u = rw (← located) (sym found)
 
   pub transfer-refused : {u : Record} {r : Ended} → (w ≡ 0 → ⊥) → r ≡ refusedEnd c s w (zeros locateLength) → Ends u c s r main store (performed dev c (stateOf u s) main store)
   unfolding transferCauses

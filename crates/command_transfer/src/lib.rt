@@ -27,7 +27,7 @@ ghost use Prim.Native.Nat.{_≤_, _<_};
 ghost use Rattle.model.specs.declared.record.Record.{Record};
 ghost use Rattle.model.specs.Names.{READ, WRITE, READ-IPL};
 ghost use Rattle.model.specs.Rules.{firstOf};
-ghost use Rattle.model.specs.Causes.{a-locate, none-or-ipl, transferCauses};
+ghost use Rattle.model.specs.Causes.{a-locate, none-or-ipl, transferRules};
 ghost use Rattle.model.specs.Commands.{wholeDevice, performed};
 ghost use Rattle.model.specs.Safe.{Usable, CcwFits};
 ghost use Rattle.unit_state.specs.Standing.{stateOf, Sound, Handed};
@@ -60,7 +60,7 @@ fn none_or_ipl(before: Before) -> bool
 
 // The cause that refuses a READ or a WRITE, or 0. `follows`: it may follow the operation that was located.
 fn transfer_cause(s: Running, follows: bool) -> u8
-    ensures { λ r. ⌜ ((u : Record) → r ≡ firstOf (transferCauses (λ _. follows) (stateOf u s))) ⌝ }
+    ensures { λ r. ⌜ r ≡ firstOf (transferRules (s .before) follows) ⌝ }
 {
     let before = s.before;
     if !after_locate(before) {

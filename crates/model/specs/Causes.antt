@@ -198,9 +198,13 @@ a-locate Other = false
 unfoldable pub readIplCauses : State → List Rule
 readIplCauses s = 40 when not (none-or-ipl (s .before)) ∷ []
 
--- READ, WRITE, by the operations that each may follow
+-- READ, WRITE, by the operations that each may follow, and whether the one located is one of them
+
+abbrev pub transferRules : Before → Bool → List Rule
+transferRules before follows = 41 when not (a-locate before) ∷ 42 when not follows ∷ []
+
 unfoldable pub transferCauses : (ℕ → Bool) → State → List Rule
-transferCauses follows s = 41 when not (a-locate (s .before)) ∷ 42 when not (follows (s .located .operation)) ∷ []
+transferCauses follows s = transferRules (s .before) (follows (s .located .operation))
 
 -- a command
 
