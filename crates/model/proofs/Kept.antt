@@ -22,6 +22,7 @@ use Rattle.model.specs.State.{Done}
 use Rattle.model.specs.Rules.{firstOf}
 use Rattle.model.specs.Lent.{ccwSize, ccwAt, blockCount}
 use Rattle.model.specs.Causes.{callCauses, kindOf}
+use Rattle.model.specs.Names.{residual-at, cause-at, blocks-at}
 use Rattle.model.specs.Answer.{channelStatus, residual, answerOf, wrongLength}
 use Rattle.model.specs.Chain.{System, system, stepAt, next, run, start, Called, called, callOf}
 use Rattle.numbers.proofs.Choice.{pick-ind}
@@ -34,9 +35,9 @@ use Rattle.model.proofs.Fields.{IsRecord, step-fields}
 
 pub record Holds (c : Ccw) (d : Done) : Type 0 where
   pub are-bytes : AreBytes (answerOf c d)
-  pub residual-whole : be2 (answerOf c d) 2 ≡ c .count - d .moved
-  pub cause-whole : getD (answerOf c d) 4 0 ≡ d .cause
-  pub blocks-whole : be2 (answerOf c d) 6 ≡ d .blocks
+  pub residual-whole : be2 (answerOf c d) residual-at ≡ c .count - d .moved
+  pub cause-whole : getD (answerOf c d) cause-at 0 ≡ d .cause
+  pub blocks-whole : be2 (answerOf c d) blocks-at ≡ d .blocks
 
 pub answer-holds : (c : Ccw) (d : Done) → c .count < 65536 → d .cause < 256 → d .blocks < 65536 → Holds c d
 unfolding answerOf channelStatus residual

@@ -28,6 +28,7 @@ use Rattle.model.specs.Rules.{firstOf}
 use Rattle.model.specs.Lent.{ccwSize, ccwAt}
 use Rattle.model.specs.Causes.{callCauses, causesOf, verdict}
 use Rattle.model.specs.Commands.{after, senseGiven, refused, refusal}
+use Rattle.model.specs.Names.{cause-at}
 use Rattle.model.specs.Answer.{channelStatus, residual, answerSize, answerOf, goesOn}
 use Rattle.model.specs.Chain.{System, system, stepAt, next, more, run, start, Called, called, callOf}
 use Rattle.model.specs.Exactly.{GivenExactly}
@@ -69,7 +70,7 @@ module _ (dev : Device) (chain : List ℕ) where
   found-next i y = rw (add-one i) refl
 
   -- a command's answer shows its cause, which is given exactly
-  answer-cause : (c : Ccw) (d : Done) → getD (answerOf c d) 4 0 ≡ d .cause
+  answer-cause : (c : Ccw) (d : Done) → getD (answerOf c d) cause-at 0 ≡ d .cause
   unfolding answerOf
   answer-cause c d = refl
 

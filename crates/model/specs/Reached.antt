@@ -19,6 +19,7 @@ use Rattle.model.specs.State.{Done}
 use Rattle.model.specs.Lent.{ccwAt}
 use Rattle.model.specs.Causes.{kindOf, causesOf}
 use Rattle.model.specs.Commands.{leaves, senseGiven}
+use Rattle.model.specs.Names.{residual-at, cause-at, blocks-at}
 use Rattle.model.specs.Answer.{unitStatus, channelBy, residual, answerSize, answerOf}
 use Rattle.model.specs.Chain.{System, stepAt, next, Called}
 use Rattle.model.specs.Exactly.{GivenExactly}
@@ -35,7 +36,7 @@ module _ (dev : Device) (chain : List ℕ) where
 -- of command i, in what the chain leaves
 pub record Answered (dev : Device) (chain : List ℕ) (y : System) (i : ℕ) (r : Called) : Type 0 where
   pub kept : part (r .answers) (i * answerSize) answerSize ≡ answerOf (ccwAt chain i) (doneAt dev chain i y)
-  pub exact : GivenExactly (causesOf dev (ccwAt chain i) (found dev chain i y .state) (found dev chain i y .main) (found dev chain i y .store)) (getD (r .answers) (i * answerSize + 4) 0)
+  pub exact : GivenExactly (causesOf dev (ccwAt chain i) (found dev chain i y .state) (found dev chain i y .main) (found dev chain i y .store)) (getD (r .answers) (i * answerSize + cause-at) 0)
 
 -- "In every refused command the residual is the whole count and blocks moved is 0"
 abbrev pub refusedAnswer : Ccw → ℕ → List ℕ
@@ -57,6 +58,6 @@ pub record EachReached (dev : Device) (chain : List ℕ) (y : System) (r : Calle
 
 -- "unit status, channel status, residual count (2), cause, zero, blocks moved (2)": no number is cut by its bytes
 pub record Numbers (c : Ccw) (d : Done) (i : ℕ) (r : Called) : Type 0 where
-  pub residual-whole : be2 (r .answers) (i * answerSize + 2) ≡ residual c d
-  pub cause-whole : getD (r .answers) (i * answerSize + 4) 0 ≡ d .cause
-  pub blocks-whole : be2 (r .answers) (i * answerSize + 6) ≡ d .blocks
+  pub residual-whole : be2 (r .answers) (i * answerSize + residual-at) ≡ residual c d
+  pub cause-whole : getD (r .answers) (i * answerSize + cause-at) 0 ≡ d .cause
+  pub blocks-whole : be2 (r .answers) (i * answerSize + blocks-at) ≡ d .blocks
