@@ -106,12 +106,11 @@ fn past_device(e: Extent, blocks: usize) -> bool
     blocks as u64 <= end
 }
 
-// The sixteen bytes, on this device, of so many blocks.
-fn define_parameters(d: Device, blocks: usize, p: &[u8]) -> Defined
-    requires { ⌜ length (now p) ≡ extentLength ⌝ }
+// The sixteen bytes, which say extent e, on this device, of so many blocks.
+fn define_parameters(d: Device, blocks: usize, e: Extent, p: &[u8]) -> Defined
+    requires { ⌜ (length (now p) ≡ extentLength) × (e ≡ extentIn (now p)) ⌝ }
     ensures { λ r. ⌜ definedNumber r ≡ firstOf (extentCauses d blocks (now (p .entry))) ⌝ }
 {
-    let e = extent_in(p);
     if mask_wrong(p[0], p[1]) {
         return Defined::BadMask;
     }
@@ -135,12 +134,13 @@ fn define_by(d: Device, blocks: usize, c: Ccw, s: Running, p: &[u8]) -> Ended
     requires { ⌜ (length (now p) ≡ extentLength) × (extentLength ≤ c .count) × CcwFits c ⌝ }
     ensures { λ r. ⌜ r ≡ definedBy d blocks c s (now (p .entry)) ⌝ }
 {
-    let answer = define_parameters(d, blocks, p);
+    let e = extent_in(p);
+    let answer = define_parameters(d, blocks, e, p);
     let cause = answer.number();
     if cause != 0 {
         return refuse(c, s, cause);
     }
-    let t = extent_set(s, s.counts, extent_in(p), Before::Other);
+    let t = extent_set(s, s.counts, e, Before::Other);
     accept(c, t, sizes::EXTENT, sizes::EXTENT, 0)
 }
 

@@ -16,16 +16,16 @@ returns c =
 returns-2 : tie.Need-returns-2
 unfolding definedBy
 returns-2 c =
-    let told = c .before .before .before .before .number .ensures ∙ c .before .before .before .before .before .define-parameters .ensures in
-    rw (c .before .extent-set .ensures, c .before .before .extent-in .ensures) at (c .accept .ensures) ∙ sym (pick-true _ _ _ (eq-eqb _ _ (rw told at (c .before .before .before .if1 .left))))
+    let told = c .before .before .before .number .ensures ∙ c .before .before .before .before .define-parameters .ensures in
+    rw (c .before .extent-set .ensures, c .before .before .before .before .before .extent-in .ensures) at (c .accept .ensures) ∙ sym (pick-true _ _ _ (eq-eqb _ _ (rw told at (c .before .before .if1 .left))))
 
 pub define-by-spec : {M : Type 1} → statement M
 define-by-spec = tie.close (tie.spec
-    (search needs)  -- define-parameters-requires
+    (search needs)  -- extent-in-requires
+    (λ c κs. (c .before .before .pre .0, c .extent-in .ensures))  -- define-parameters-requires
     (search needs)  -- number-requires
     (search needs)  -- refuse-requires
     returns
-    (search needs)  -- extent-in-requires
     (search needs)  -- extent-set-requires
     (search needs)  -- accept-requires
     returns-2)
