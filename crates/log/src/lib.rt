@@ -11,7 +11,7 @@ use slices::put_at;
 ghost use mathlib.Core.Path.{_≡_};
 ghost use Prim.Native.Nat.{_<_};
 ghost use Rattle.model.specs.declared.record.Record.{Record};
-ghost use Rattle.model.specs.Log.{added3, added2, logOf};
+ghost use Rattle.model.specs.Log.{added3, logOf};
 ghost use Rattle.log.specs.Counts.{counted, withRead, withWritten, withMovement, noCounts};
 
 // A count of 3 bytes with n added; it stops at the largest number that they hold.
@@ -20,14 +20,6 @@ fn added3(count: [u8; 3], n: usize) -> [u8; 3]
     ensures { λ r. ⌜ r ≡ added3 count n ⌝ }
 {
     bytes3(least(number3(count) + n, 0xFFFFFF))
-}
-
-// A count of 2 bytes with n added, likewise.
-fn added2(count: [u8; 2], n: usize) -> [u8; 2]
-    requires { ⌜ n < 4294967296 ⌝ }
-    ensures { λ r. ⌜ r ≡ added2 count n ⌝ }
-{
-    bytes2(least(number2(count) + n, 0xFFFF))
 }
 
 // n blocks were read.
@@ -54,12 +46,12 @@ pub fn written_counted(n: usize, k: Counts) -> Counts
     t
 }
 
-// The access mechanism moved once.
+// The access mechanism moved once. Two bytes stop likewise.
 pub fn movement_counted(k: Counts) -> Counts
     ensures { λ r. ⌜ r ≡ withMovement k ⌝ }
 {
     let count = k.movements;
-    let more = added2(count, 1);
+    let more = bytes2(least(number2(count) + 1, 0xFFFF));
     let mut t = k;
     t.movements = more;
     t

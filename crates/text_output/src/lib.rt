@@ -4,13 +4,21 @@ use model::sizes;
 use text_digits::add;
 use text_digits::add_decimal;
 use text_digits::add_hex;
+ghost use mathlib.Core.List.{[], _∷_};
 ghost use Prim.Native.Nat.{_+_, _*_, _≤_};
 ghost use lib.ListN.{length};
 ghost use Rattle.slices.specs.Parts.{mostCopied};
 ghost use Rattle.model.specs.Answer.{answerSize};
 ghost use Rattle.text_digits.specs.Digits.{decimal, hex};
 ghost use Rattle.text_digits.specs.Output.{Adds};
-ghost use Rattle.text_output.specs.Printout.{line, refusedLine, statusLines, countLines, commandLines, printoutOf};
+ghost use Rattle.text_output.specs.Printout.{lineFeed, line, refusedLine, statusLines, countLines, commandLines, printoutOf};
+
+// The end of a line.
+fn end_line(out: &mut [u8], at: usize) -> usize
+    ensures { λ r. ⌜ Adds (now (out .entry)) at (lineFeed ∷ []) r (now (out .exit)) ⌝ }
+{
+    add(out, at, b"\n")
+}
 
 // A line with a number.
 fn number_line(out: &mut [u8], at: usize, key: &[u8], n: usize) -> usize
@@ -19,7 +27,7 @@ fn number_line(out: &mut [u8], at: usize, key: &[u8], n: usize) -> usize
 {
     let keyed = add(out, at, key);
     let valued = add_decimal(out, keyed, n);
-    add(out, valued, b"\n")
+    end_line(out, valued)
 }
 
 // A line with bytes.
@@ -29,7 +37,7 @@ fn bytes_line(out: &mut [u8], at: usize, key: &[u8], bytes: &[u8]) -> usize
 {
     let keyed = add(out, at, key);
     let valued = add_hex(out, keyed, bytes);
-    add(out, valued, b"\n")
+    end_line(out, valued)
 }
 
 // The number of command i, which counts from 1 in print, and its statuses.
