@@ -1,14 +1,12 @@
 -- `define_parameters` meets its contract. Each test is one line of `extentCauses`, in its order: a return takes the line whose test held, past those that did not. Assumes nothing.
 use Prim.Native.Nat.{ℕ}
 use mathlib.Core.Path.{_≡_, sym, _∙_}
-use mathlib.Core.Bool.{not}
-use mathlib.Core.List.{List, [], _∷_}
+use mathlib.Core.List.{List}
 use lib.ListN.{drop}
 use borrow.Author.Tests.{lt-ltb, le-ltb}
-use Rattle.numbers.specs.Choice.{oneOf}
 use Rattle.model.specs.Rules.{Rule, firstOf}
 use Rattle.model.specs.Parameters.{extentIn, reservedIn, sizeIn}
-use Rattle.model.specs.Causes.{extentCauses}
+use Rattle.model.specs.Causes.{otherSize, extentCauses}
 use Rattle.model.proofs.Verdicts.{first-here, first-later, first-none}
 use Rattle.command_extent.proofs.Tests.{sixteen}
 use Rattle.command_extent.proofs.define_parameters.Statement.{statement}
@@ -30,7 +28,7 @@ unfolding extentCauses extentIn
 past-maintenance c = past-mask (c .before .before .before) ∙ first-later _ _ (sym (c .before .maintenance .ensures) ∙ c .if2 .left)
 
 -- the third line, as the code tests it
-size-tested : (c : tie.After-size-wrong) → not (oneOf (0 ∷ c .before .before .before .before .before .before .before .before .before .before .args .d .block ∷ []) (sizeIn (c .before .before .before .before .before .before .before .before .before .before .args .p .now))) ≡ c .size-wrong .result
+size-tested : (c : tie.After-size-wrong) → otherSize (c .before .before .before .before .before .before .before .before .before .before .args .d) (sizeIn (c .before .before .before .before .before .before .before .before .before .before .args .p .now)) ≡ c .size-wrong .result
 unfolding sizeIn
 size-tested c = rw (← (c .before .be2 .ensures .0)) (sym (c .size-wrong .ensures))
 

@@ -1,16 +1,15 @@
 -- `no_command` meets its contract: the mask and the rule agree on all 256 bytes. Assumes nothing.
 use mathlib.Core.Path.{refl}
-use Prim.Native.Nat.{ℕ, _%_}
-use mathlib.Core.List.{[], _∷_}
 use Rattle.numbers.proofs.Bits.{mask-off}
 use Rattle.numbers.specs.Choice.{oneOf}
+use Rattle.model.specs.Causes.{noCommand}
 use borrow.Author.Needs.{needs}
 use Rattle.channel.proofs.causes.no_command.Statement.{statement}
 use Rattle.channel.proofs.causes.no_command.Tie as tie
 
 returns : tie.Need-returns
 unfolding oneOf
-returns c = mask-off _ (λ (b : ℕ). oneOf (0 ∷ 8 ∷ []) (b % 16)) refl (c .args .command) (search needs)
+returns c = mask-off _ noCommand refl (c .args .command) (search needs)
 
 pub no-command-spec : {M : Type 1} → statement M
 no-command-spec = tie.close
