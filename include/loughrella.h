@@ -19,6 +19,12 @@
 extern "C" {
 #endif
 
+/* Grows where a caller may have to change something.
+ *   2  The residual of a command that its parameters refused (causes 22 to 26, 32 to 39) is the count less the parameters,
+ *      which were read. It was the whole count: who took it for that takes the count from the CCW.
+ *   1  The first. */
+#define LOUGHRELLA_VERSION 2
+
 #define LOUGHRELLA_BLOCK_SIZE 512u       /* bytes of a block */
 #define LOUGHRELLA_MAX_BLOCKS 131072u    /* blocks of a store */
 #define LOUGHRELLA_MAX_STORAGE 16777216u /* bytes of main storage */
@@ -37,7 +43,9 @@ extern "C" {
  *          movements (2), ready (1), read-only (1). For the last two 0 is no and any other value is yes. It is what the
  *          unit remembers from one call to the next; loughrella_record sets one up.
  * answers  at least as long as the chain. Each command reached gets 8 bytes, in order: unit status, channel status,
- *          residual count (2), cause, zero, blocks moved (2). The bytes of commands not reached stay as they are.
+ *          residual count (2), cause, zero, blocks moved (2). After causes 22 to 26 the unit has read the parameters and the
+ *          residual is the count less 16, after 32 to 39 the count less 8, after any other refusal the whole count. The
+ *          bytes of commands not reached stay as they are.
  *
  * Returns 256 times a cause plus the number of commands reached. With cause 0 that is 1 to 32 commands, and what each
  * did is in its answer. With causes 1 to 6 no command was reached and no byte of any buffer was changed.

@@ -264,6 +264,15 @@ static void put_answer(uint8_t *answer, uint8_t unit, uint8_t channel, uint32_t 
     put16(answer + 6, blocks);
 }
 
+// The parameter bytes that a refused command has taken. They are transferred first and checked then (002, 2.1.3 and
+// 2.1.4; 02, ask 1), so causes 22 to 26 and 32 to 39 come after them. The counts held that many: 20 and 31 are tested before.
+static uint32_t taken(uint32_t cause)
+{
+    if (cause >= 22 && cause <= 26) return 16;
+    if (cause >= 32 && cause <= 39) return 8;
+    return 0;
+}
+
 // Runs one command and writes its answer; tells whether the chain may go on.
 static bool run_command(struct run *r, const struct ccw *c, uint8_t *answer)
 {
@@ -276,7 +285,7 @@ static bool run_command(struct run *r, const struct ccw *c, uint8_t *answer)
     cause = unit_command(r, c, &w);
     if (cause != 0) {
         set_sense(r, c, cause);
-        put_answer(answer, CHANNEL_END_DEVICE_END | UNIT_CHECK, 0, c->count, cause, 0);
+        put_answer(answer, CHANNEL_END_DEVICE_END | UNIT_CHECK, 0, c->count - taken(cause), cause, 0);
         return false;
     }
     bool incorrect = (c->flags & SUPPRESS_LENGTH) == 0 && c->count != w.can_move && c->command != NO_OPERATION;

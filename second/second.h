@@ -1,4 +1,4 @@
-// The second program: document 01 as docs/MISMATCHES.md settles it, written afresh in C.
+// The second program: document 01 as docs/MISMATCHES.md settles it, with ask 1 of document 02, written afresh in C.
 #ifndef SECOND_H
 #define SECOND_H
 

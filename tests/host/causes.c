@@ -7,15 +7,15 @@
 
 #define ONE_MOVEMENT LOG("000000", "000000", "0001")
 
-// A chain of one DEFINE EXTENT.
+// A chain of one DEFINE EXTENT. Refused for its parameters it has read all 16 bytes (02, ask 1), and none is left.
 #define EXTENT_DONE(n, w, s) {.name = n, .why = w, .storage = s, .chain = DEFINE_END, .answers = DONE}
 #define EXTENT_REFUSED(n, w, s, cause, sense_bytes) \
-    {.name = n, .why = w, .storage = s, .chain = DEFINE_END, .answers = REFUSED("0010", cause), .sense = sense_bytes}
+    {.name = n, .why = w, .storage = s, .chain = DEFINE_END, .answers = REFUSED("0000", cause), .sense = sense_bytes}
 
-// DEFINE EXTENT, LOCATE.
+// DEFINE EXTENT, LOCATE. Refused for its parameters the LOCATE has read all 8 bytes.
 #define LOCATE_DONE(n, w, s) {.name = n, .why = w, .storage = s, .chain = DEFINE LOCATE_END, .answers = DONE DONE, .log = ONE_MOVEMENT}
 #define LOCATE_REFUSED(n, w, s, cause, sense_bytes) \
-    {.name = n, .why = w, .storage = s, .chain = DEFINE LOCATE_END, .answers = DONE REFUSED("0008", cause), .sense = sense_bytes}
+    {.name = n, .why = w, .storage = s, .chain = DEFINE LOCATE_END, .answers = DONE REFUSED("0000", cause), .sense = sense_bytes}
 
 static const struct line channel_lines[] = {
     {.name = "11, count 0", .why = "01: applies to NO-OPERATION too", .storage = "", .chain = "03 000000 00 00 0000",
@@ -152,9 +152,9 @@ static const struct line order_lines[] = {
     LOCATE_REFUSED("36 before 37", "order", "40000000 00000000 00000000 00000007 01000001 00000008", "24", SENSE_OUTSIDE),
     {.name = "37 before 38", .why = "order", .record = READ_ONLY,
      .storage = "40000000 00000000 00000000 00000007 01000001 00000000",
-     .chain = DEFINE LOCATE_END, .answers = DONE REFUSED("0008", "25"), .sense = SENSE_ARGUMENT},
+     .chain = DEFINE LOCATE_END, .answers = DONE REFUSED("0000", "25"), .sense = SENSE_ARGUMENT},
     {.name = "38 before 39", .why = "order", .record = READ_ONLY, .storage = DEVICE "04000001 00000000", .chain = DEFINE LOCATE_END,
-     .answers = DONE REFUSED("0008", "26"), .sense = SENSE_INHIBITED},
+     .answers = DONE REFUSED("0000", "26"), .sense = SENSE_INHIBITED},
     {.name = "44 before 40", .why = "order", .record = "32*00 00 00", .storage = "24*DD",
      .chain = "04 000000 40 00 0018 02 000000 00 00 0010",
      .answers = DONE REFUSED("0010", "2C"), .sense = SENSE_NOT_READY, .storage_after = {{0, "24*00"}}},
@@ -202,7 +202,7 @@ static bool mask_bytes(void)
 {
     for (unsigned mask = 0; mask < 256; mask++) {
         char storage[64];
-        struct line line = {.storage = storage, .chain = DEFINE_END, .answers = REFUSED("0010", "16"), .sense = SENSE_ARGUMENT};
+        struct line line = {.storage = storage, .chain = DEFINE_END, .answers = REFUSED("0000", "16"), .sense = SENSE_ARGUMENT};
         snprintf(storage, sizeof storage, "%02X000000 00000000 00000000 00000007", mask);
         switch (mask) {
         case 0x00: case 0x04: case 0x40: case 0x44: case 0xC0: case 0xC4:
@@ -210,7 +210,7 @@ static bool mask_bytes(void)
             line.sense = NULL;
             break;
         case 0x08: case 0x0C: case 0x48: case 0x4C: case 0xC8: case 0xCC:
-            line.answers = REFUSED("0010", "17");
+            line.answers = REFUSED("0000", "17");
             break;
         default:
             break;
@@ -225,9 +225,9 @@ static bool operation_bytes(void)
 {
     for (unsigned byte = 0; byte < 256; byte++) {
         char storage[96], sense[64];
-        struct line line = {.storage = storage, .chain = DEFINE LOCATE_END, .answers = DONE REFUSED("0008", "20"), .sense = SENSE_ARGUMENT};
+        struct line line = {.storage = storage, .chain = DEFINE LOCATE_END, .answers = DONE REFUSED("0000", "20"), .sense = SENSE_ARGUMENT};
         snprintf(storage, sizeof storage, DEVICE "%02X010001 00000000", byte);
-        if (byte < 0x20) line.answers = DONE REFUSED("0008", "21");
+        if (byte < 0x20) line.answers = DONE REFUSED("0000", "21");
         switch (byte) {
         case 0x01: case 0x02: case 0x05: case 0x06: case 0x11: case 0x12: case 0x15: case 0x16:
             line.answers = DONE DONE;
@@ -236,7 +236,7 @@ static bool operation_bytes(void)
             break;
         case 0x04: case 0x14:
             snprintf(sense, sizeof sense, "80 01 00000000 00 0C %02X010001 00000000", byte);
-            line.answers = DONE REFUSED("0008", "27");
+            line.answers = DONE REFUSED("0000", "27");
             line.sense = sense;
             break;
         default:
@@ -262,13 +262,80 @@ static bool permissions(void)
         char storage[96], answers[96];
         struct line line = {.storage = storage, .record = read_only ? READ_ONLY : NULL, .chain = DEFINE LOCATE_END, .answers = answers};
         snprintf(storage, sizeof storage, "%02X000000 00000000 00000000 00000007 %02X010001 00000000", mask, operation);
-        snprintf(answers, sizeof answers, DONE "%s 00 %s %02X 00 0000", cause != 0 ? "0E" : "0C", cause != 0 ? "0008" : "0000", cause);
+        snprintf(answers, sizeof answers, DONE "%s 00 0000 %02X 00 0000", cause != 0 ? "0E" : "0C", cause);
         if (cause == 0) line.log = ONE_MOVEMENT;
         if (cause == 37) line.sense = SENSE_ARGUMENT;
         if (cause == 38) line.sense = SENSE_INHIBITED;
         if (cause == 39) line.sense = "80 01 00000000 00 0C 04010001 00000000";
         if (!line_holds(&line)) return printf("  mask %02X, operation %u, read-only %d\n", mask, operation, read_only), false;
     }
+    return true;
+}
+
+// 02, ask 1: the residual of every refusal by the unit but 20 and 31. `taken` bytes were transferred before the check that
+// refused; `least` is the least count that gets there. Data fills storage to the largest count.
+#define FILLED " 66000*DD"
+#define BAD_EXTENT(cause, storage, sense) {cause, 16, 16, NULL, storage FILLED, "", "63 000000", "", sense}
+#define BAD_LOCATE(cause, storage, sense) {cause, 8, 8, NULL, storage FILLED, DEFINE, "43 000010", DONE, sense}
+
+static const struct refusal {
+    unsigned cause, taken, least;
+    const char *record, *storage, *before, *command; // commands before it; its own command byte and address
+    const char *answers, *sense;                     // of the commands before it; afterwards
+} refusals[] = {
+    {21, 0, 16, NULL, DEVICE FILLED, DEFINE, "63 000010", DONE, SENSE_SEQUENCE},
+    BAD_EXTENT(22, "80000000 00000000 00000000 00000007", SENSE_ARGUMENT),
+    BAD_EXTENT(23, "08000000 00000000 00000000 00000007", SENSE_ARGUMENT),
+    BAD_EXTENT(24, "C00001FF 00000000 00000000 00000007", SENSE_SIZE_BAD),
+    BAD_EXTENT(25, EXTENT("00000000", "00000005", "00000004"), SENSE_ARGUMENT),
+    BAD_EXTENT(26, EXTENT("00000000", "00000000", "00000008"), SENSE_ARGUMENT),
+    {30, 0, 1, NULL, DEVICE "86000001 00000000" FILLED, "", "43 000010", "", SENSE_SEQUENCE},
+    BAD_LOCATE(32, DEVICE "86000001 00000000", SENSE_ARGUMENT),
+    BAD_LOCATE(33, DEVICE "07000001 00000000", SENSE_ARGUMENT),
+    BAD_LOCATE(34, DEVICE "06000000 00000000", SENSE_ARGUMENT),
+    BAD_LOCATE(35, DEVICE "02050002 00000000", SENSE_ARGUMENT),
+    BAD_LOCATE(36, DEVICE "06000001 00000008", SENSE_OUTSIDE),
+    BAD_LOCATE(37, "40000000 00000000 00000000 00000007 01000001 00000000", SENSE_ARGUMENT),
+    {38, 8, 8, READ_ONLY, DEVICE "01000001 00000000" FILLED, DEFINE, "43 000010", DONE, SENSE_INHIBITED},
+    BAD_LOCATE(39, DEVICE "04000001 00000003", "80 01 00000000 00 0C 04000001 00000003"),
+    {40, 0, 1, NULL, DEVICE FILLED, DEFINE, "02 000010", DONE, SENSE_SEQUENCE},
+    {41, 0, 1, NULL, DEVICE FILLED, DEFINE, "42 000010", DONE, SENSE_SEQUENCE},
+    {42, 0, 1, NULL, DEVICE "06000001 00000000" FILLED, DEFINE LOCATE, "41 000018", DONE DONE, SENSE_SEQUENCE},
+    {43, 0, 1, NULL, DEVICE FILLED, "", "64 000000", "", SENSE_COMMAND},
+    {44, 0, 1, NOT_READY, "80000000" FILLED, "", "63 000000", "", SENSE_NOT_READY},
+    {44, 0, 1, NOT_READY, "86000001" FILLED, "", "43 000000", "", SENSE_NOT_READY},
+};
+
+// With flags 00, 20, 40 and 60: the refusal shows channel status 00 and ends the chain with each.
+static bool residual_holds(const struct refusal *r, unsigned count)
+{
+    for (unsigned flags = 0; flags <= 0x60; flags += 0x20) {
+        char chain[128], answers[128];
+        struct line line = {.record = r->record, .storage = r->storage, .chain = chain, .answers = answers, .sense = r->sense,
+                            .log = r->cause == 42 ? ONE_MOVEMENT : NULL};
+        snprintf(chain, sizeof chain, "%s%s %02X 00 %04X " NOP_END, r->before, r->command, flags, count);
+        snprintf(answers, sizeof answers, "%s0E 00 %04X %02X 00 0000", r->answers, count - r->taken, r->cause);
+        if (!line_holds(&line)) return printf("  cause %u, flags %02X, count %u\n", r->cause, flags, count), false;
+    }
+    return true;
+}
+
+static bool residuals(void)
+{
+    static const unsigned beyond[] = {0, 1, 4, 7, 8, 9, 15, 16, 17, 239, 240, 248, 65519};
+    for (size_t i = 0; i < COUNT_OF(refusals); i++)
+        for (size_t k = 0; k < COUNT_OF(beyond); k++)
+            if (!residual_holds(&refusals[i], refusals[i].least + beyond[k])) return false;
+    return true;
+}
+
+// 20 and 31: every count that is too small stays whole, though the parameters are bad too.
+static bool short_counts(void)
+{
+    static const struct refusal extent = {20, 0, 1, NULL, "80000000" FILLED, "", "63 000000", "", SENSE_FEWER};
+    static const struct refusal locate = {31, 0, 1, NULL, DEVICE "86000001 00000000", DEFINE, "43 000010", DONE, SENSE_FEWER};
+    for (unsigned count = 1; count < 16; count++)
+        if (!residual_holds(&extent, count) || (count < 8 && !residual_holds(&locate, count))) return false;
     return true;
 }
 
@@ -284,4 +351,6 @@ void test_causes(void)
     check("causes", "22 and 23, every mask", mask_bytes());
     check("causes", "32, 33 and 39, every operation byte", operation_bytes());
     check("causes", "37 and 38, every mask with every operation", permissions());
+    check("residuals", "every refusal, counts beyond its parameters", residuals());
+    check("residuals", "20 and 31, every count", short_counts());
 }

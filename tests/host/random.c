@@ -13,7 +13,7 @@
 enum kind {
     INCORRECT_LENGTH, SHORT_READ, SHORT_WRITE, NOT_BEGUN, LONG_TRANSFER, REPLICATED, MODIFIER_3, OVERWRITTEN, SECOND_IPL,
     SENSE_NOT_READY, READ_ONLY_READ, FULL_READ, FULL_CHECKED, FULL_MOVEMENTS, SENSE_KEPT, ALL_WORDS, WHOLE_STORAGE,
-    WHOLE_STORE,
+    WHOLE_STORE, EXTENT_LEFT, LOCATE_LEFT,
     KINDS
 };
 
@@ -22,6 +22,7 @@ static const char *const kind_names[KINDS] = {
     "LOCATE with modifier bit 3", "LOCATE overwritten by an earlier command", "READ IPL from READ IPL", "SENSE while not ready",
     "READ while read-only", "blocks read filled", "blocks written with check filled", "access movements filled",
     "program check with sense pending", "all 32 commands reached", "storage of 16,777,216", "store of 131,072 blocks",
+    "bad extent with a count over 16", "bad LOCATE with a count over 8",
 };
 
 static const struct { uint8_t command; const char *name; } commands[] = {
@@ -106,6 +107,8 @@ static void tally_step(struct tally *t, const struct buffers *b, const struct be
     if (s.cause != 0) {
         if (s.cause < CAUSES) t->causes[s.cause]++;
         t->kinds[SENSE_KEPT] += s.cause < 20 && b->at[RECORD][0] != 0;
+        t->kinds[EXTENT_LEFT] += s.cause >= 22 && s.cause <= 26 && s.count > 16; // these have read their parameters
+        t->kinds[LOCATE_LEFT] += s.cause >= 32 && s.cause <= 39 && s.count > 8;
         return;
     }
     t->accepted[s.command]++;

@@ -17,7 +17,7 @@
 #define DONE "0C 00 0000 00 00 0000 "
 #define NOP_DONE "0C 00 0001 00 00 0000 "
 #define MOVED(blocks) "0C 00 0000 00 00 " blocks " "
-#define REFUSED(count, cause) "0E 00 " count " " cause " 00 0000 "
+#define REFUSED(residual, cause) "0E 00 " residual " " cause " 00 0000 "
 #define PROGRAM(count, cause) "00 20 " count " " cause " 00 0000 "
 
 // Sense (docs/SENSE.md; 002, 5.1 and 5.2). The zeros that follow are left out.

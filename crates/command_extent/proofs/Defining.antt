@@ -20,6 +20,7 @@ use Rattle.model.specs.Causes.{extentCauses, defineExtentCauses}
 use Rattle.model.specs.Sense.{shown}
 use Rattle.model.specs.Commands.{out, ended, cleared, defineDone, defineExtent, decided, performed}
 use Rattle.model.proofs.Verdicts.{first-later, never-given}
+use Rattle.model.proofs.Read.{extent-reads}
 use Rattle.model.proofs.Steps.{performed-as}
 use Rattle.storage.specs.Area.{fetchedFrom}
 use Rattle.storage.proofs.Laws.{fetched-array}
@@ -47,6 +48,7 @@ module _ (u : Record) (dev : Device) (c : Ccw) (s : Running) (main store : List 
       decided-by u c s main store _ _ _ (withExtent s (s .counts) (extentIn (fetched c main extentLength)) Other) extentLength (zeros locateLength) r
       (performed-as dev c (stateOf u s) main store .define-extent k ∙ ap (λ (v : ℕ). decided c (stateOf u s) main store v (defineExtent c (cleared (stateOf u s)) main store)) verdict)
       (e ∙ rw (b, bytes) refl)
+      (extent-reads dev (blockCount dev store) (fetched c main extentLength))
       (λ _. sym (pick-false _ _ _ (ne-eqb _ _ (never-given 39 (extentCauses dev (blockCount dev store) (fetched c main extentLength)) refl (λ z. omega arith)))))
       (rw k (sym (and-false (s .kept))))
       (defined-out (fetched c main extentLength))

@@ -15,7 +15,7 @@ use Rattle.model.specs.Causes.{extentCauses}
 use Rattle.unit_state.specs.declared.Running.{Running}
 use Rattle.unit_state.specs.Standing.{withExtent}
 use Rattle.endings.specs.declared.Ended.{Ended}
-use Rattle.endings.specs.Ending.{acceptedEnd, refusedEnd}
+use Rattle.endings.specs.Ending.{acceptedEnd, parametersRefused}
 use Rattle.command_extent.specs.declared.Defined.{Defined}
 use Rattle.command_extent.specs.declared.Defined.the-variants.{Taken, BadMask, Maintenance, BadSize, FirstAfterLast, PastDevice}
 
@@ -30,4 +30,4 @@ definedNumber PastDevice = 26
 unfoldable pub definedBy : Device → ℕ → Ccw → Running → List ℕ → Ended
 definedBy dev blocks c s p =
     let cause = firstOf (extentCauses dev blocks p) in
-    pick (cause =? 0) (acceptedEnd c (withExtent s (s .counts) (extentIn p) Other) extentLength extentLength 0) (refusedEnd c s cause (zeros locateLength))
+    pick (cause =? 0) (acceptedEnd c (withExtent s (s .counts) (extentIn p) Other) extentLength extentLength 0) (parametersRefused c s cause extentLength (zeros locateLength))

@@ -4,6 +4,7 @@ use blocks::block_count;
 use endings::Ended;
 use endings::accept;
 use endings::refuse;
+use endings::refuse_parameters;
 use model::ccw::Ccw;
 use model::device::Device;
 use model::extent::Displacement;
@@ -138,7 +139,7 @@ fn define_by(d: Device, blocks: usize, c: Ccw, s: Running, p: &[u8]) -> Ended
     let answer = define_parameters(d, blocks, e, p);
     let cause = answer.number();
     if cause != 0 {
-        return refuse(c, s, cause);
+        return refuse_parameters(c, s, cause, sizes::EXTENT, [0u8; sizes::LOCATE]);
     }
     let t = extent_set(s, s.counts, e, Before::Other);
     accept(c, t, sizes::EXTENT, sizes::EXTENT, 0)

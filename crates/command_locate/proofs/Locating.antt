@@ -19,6 +19,7 @@ use Rattle.model.specs.Causes.{locationCauses, locateCauses}
 use Rattle.model.specs.Sense.{shown}
 use Rattle.model.specs.Commands.{out, ended, cleared, locateDone, locate, decided, performed}
 use Rattle.model.proofs.Verdicts.{first-later}
+use Rattle.model.proofs.Read.{location-reads}
 use Rattle.model.proofs.Steps.{performed-as}
 use Rattle.log.specs.Counts.{withMovement}
 use Rattle.log.proofs.Counting.{movement-counted}
@@ -47,4 +48,4 @@ module _ (u : Record) (dev : Device) (c : Ccw) (s : Running) (main store : List 
       = first-later _ _ n ∙ first-later _ _ (le-ltb _ _ l) in
       decided-by u c s main store _ _ _ (withLocate s (withMovement (s .counts)) (locatedIn (fetched c main locateLength))) locateLength (shown _ (fetched c main locateLength)) r
       (performed-as dev c (stateOf u s) main store .locate k ∙ ap (λ (v : ℕ). decided c (stateOf u s) main store v (locate c (cleared (stateOf u s)) main store)) verdict)
-      e (λ _. refl) (rw k (sym (and-false (s .kept)))) (located-out (fetched c main locateLength))
+      e (location-reads (stateOf u s) (fetched c main locateLength)) (λ _. refl) (rw k (sym (and-false (s .kept)))) (located-out (fetched c main locateLength))

@@ -15,7 +15,7 @@ use Rattle.log.specs.Counts.{withMovement}
 use Rattle.unit_state.specs.declared.Running.{Running}
 use Rattle.unit_state.specs.Standing.{withLocate, stateOf}
 use Rattle.endings.specs.declared.Ended.{Ended}
-use Rattle.endings.specs.Ending.{acceptedEnd, refusedEnd}
+use Rattle.endings.specs.Ending.{acceptedEnd, parametersRefused}
 use Rattle.command_locate.specs.declared.Location.{Location}
 use Rattle.command_locate.specs.declared.Location.the-variants.{Found, BadModifier, BadOperation, BadCount, BadReplication, OutsideExtent, Forbidden, ReadOnly, NoAlternate}
 
@@ -33,4 +33,4 @@ locationNumber NoAlternate = 39
 unfoldable pub locatedBy : Record → Ccw → Running → List ℕ → Ended
 locatedBy u c s p =
     let cause = firstOf (locationCauses (stateOf u s) p) in
-    pick (cause =? 0) (acceptedEnd c (withLocate s (withMovement (s .counts)) (locatedIn p)) locateLength locateLength 0) (refusedEnd c s cause (shown cause p))
+    pick (cause =? 0) (acceptedEnd c (withLocate s (withMovement (s .counts)) (locatedIn p)) locateLength locateLength 0) (parametersRefused c s cause locateLength (shown cause p))

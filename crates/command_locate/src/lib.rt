@@ -3,7 +3,7 @@
 use endings::Ended;
 use endings::accept;
 use endings::refuse;
-use endings::refuse_showing;
+use endings::refuse_parameters;
 use log::movement_counted;
 use model::ccw::Ccw;
 use model::extent::Displacement;
@@ -238,7 +238,7 @@ fn locate_by(u: Record, c: Ccw, s: Running, main: &[u8], p: &[u8]) -> Ended
     let answer = locate_parameters(u, s, p);
     let cause = answer.number();
     if cause != 0 {
-        return refuse_showing(c, s, cause, shown_by(cause, c, main));
+        return refuse_parameters(c, s, cause, sizes::LOCATE, shown_by(cause, c, main));
     }
     let t = locate_set(s, movement_counted(s.counts), located_in(p));
     accept(c, t, sizes::LOCATE, sizes::LOCATE, 0)

@@ -13,9 +13,8 @@ use lib.ListN.{length, take}
 use native.Mathlib.Nat.{mul-le-mul-left, mul-le-mul-right}
 use native.Mathlib.Omega.{arith}
 use borrow.Author.Tests.{not-false, ne-eqb}
-use Rattle.numbers.specs.Choice.{_=?_, pick}
+use Rattle.numbers.specs.Choice.{_=?_, pick, oneOf}
 use Rattle.numbers.proofs.Choice.{pick-both}
-use Rattle.slices.specs.Parts.{zeros}
 use Rattle.model.specs.declared.ccw.Ccw.{Ccw}
 use Rattle.model.specs.declared.device.Device.{Device}
 use Rattle.model.specs.declared.extent.Extent.{Extent}
@@ -27,12 +26,13 @@ use Rattle.model.specs.State.{State}
 use Rattle.model.specs.Names.{write-check, READ, WRITE, READ-IPL}
 use Rattle.model.specs.Rules.{firstOf}
 use Rattle.model.specs.Lent.{fetched, delivered, blockCount, blocksFrom, blocksInto}
-use Rattle.model.specs.Parameters.{locateLength, address, reads, writes}
-use Rattle.model.specs.Causes.{a-locate, transferRules, transferCauses, readIplCauses}
+use Rattle.model.specs.Parameters.{address, reads, writes}
+use Rattle.model.specs.Causes.{bytesRead, a-locate, transferRules, transferCauses, readIplCauses}
 use Rattle.model.specs.Log.{writtenCounted}
 use Rattle.model.specs.Safe.{Usable, CcwFits}
 use Rattle.model.specs.Commands.{Out, ended, decided, after, cleared, begun, readDone, read, writeDone, write, wholeDevice, iplDone, readIpl, performed}
-use Rattle.model.proofs.Verdicts.{first-later, first-none, failed-all, never-given}
+use Rattle.model.proofs.Verdicts.{first-later, first-none, failed-all}
+use Rattle.model.proofs.Read.{table-reads}
 use Rattle.model.proofs.Safety.{on-device}
 use Rattle.model.proofs.Lengths.{in-store}
 use Rattle.model.proofs.Steps.{performed-as}
@@ -97,10 +97,10 @@ module _ {follows : ℕ → Bool} {dev : Device} {c : Ccw} {s : Running} {main s
   unfolding transferCauses stateOf
   given u = rw (← located) (sym found)
 
-  pub transfer-refused : {u : Record} {r : Ended} → (w ≡ 0 → ⊥) → r ≡ refusedEnd c s w (zeros locateLength) → Ends u c s r main store (performed dev c (stateOf u s) main store)
-  unfolding transferCauses
+  pub transfer-refused : {u : Record} {r : Ended} → (w ≡ 0 → ⊥) → r ≡ refusedEnd c s w → Ends u c s r main store (performed dev c (stateOf u s) main store)
+  unfolding transferCauses bytesRead oneOf pick
   transfer-refused {u} {r} n e =
-      refused-by u c s main store _ _ _ w r (t .is (stateOf u s)) e (given u) (ne-eqb _ _ n) (ne-eqb _ _ (λ z. never-given 39 (transferCauses follows (stateOf u s)) refl (λ k. omega arith) (given u ∙ z)))
+      refused-by u c s main store _ _ _ w r (t .is (stateOf u s)) e (given u) (ne-eqb _ _ n) (rw (given u) at (table-reads 0 (transferCauses follows (stateOf u s)) refl (rw (given u) (ne-eqb _ _ n))))
 
   pub passed : w ≡ 0 → Passed follows dev c s main store
   unfolding transferCauses stateOf

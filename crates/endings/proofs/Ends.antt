@@ -1,5 +1,5 @@
 -- When what the code says of a command is what the definition says. No contract cites this file.
---     refused-ends, accepted-ends    of a command that was refused, and of one that was accepted
+--     refused-ends, accepted-ends    of a command that was refused, and of one that was accepted; unread-ends   refused before it had read anything
 --     decided-refused, decided-accepted
 --                                    so of one that its table decided
 --     refused-by, accepted-by, decided-by
@@ -18,24 +18,25 @@ use Rattle.model.specs.Names.{NO-OPERATION}
 use Rattle.model.specs.Lent.{fetched}
 use Rattle.model.specs.Parameters.{locateLength}
 use Rattle.model.specs.Sense.{shown}
-use Rattle.model.specs.Causes.{kindOf}
+use Rattle.model.specs.Causes.{kindOf, bytesRead}
 use Rattle.model.specs.Commands.{Out, out, leaves, ended, refused, decided}
 use Rattle.model.specs.Answer.{residual}
+use Rattle.model.proofs.Read.{unread-shows}
 use Rattle.sense_table.specs.Sensed.{senseShowing}
 use Rattle.sense_table.proofs.Stores.{sense-is, none-showing}
 use Rattle.unit_state.specs.declared.Running.{Running}
 use Rattle.unit_state.specs.Standing.{stateOf}
 use Rattle.endings.specs.declared.Ended.{Ended}
-use Rattle.endings.specs.Ending.{acceptedEnd, refusedEnd, Ends}
+use Rattle.endings.specs.Ending.{acceptedEnd, parametersRefused, refusedEnd, Ends}
 
 module _ (u : Record) (c : Ccw) (s : Running) (main store : List ℕ) where
-  pub refused-ends : (w : ℕ) (p : List ℕ) (r : Ended) → r ≡ refusedEnd c s w p → p ≡ shown w (fetched c main locateLength) → (w ≡ 0 → ⊥)
+  pub refused-ends : (w n : ℕ) (p : List ℕ) (r : Ended) → r ≡ parametersRefused c s w n p → n ≡ bytesRead w → p ≡ shown w (fetched c main locateLength) → (w ≡ 0 → ⊥)
       → Ends u c s r main store (refused c (stateOf u s) main store w)
   unfolding refused residual
-  refused-ends w p r e f n =
-      rw (e, f)
+  refused-ends w n p r e k f z =
+      rw (e, k, f)
       (record {
-        left = record { state = ap (leaves (kindOf w) (stateOf u s)) (sense-is w (shown w (fetched c main locateLength))); cause = refl; kept = λ z. absurd (n z); refused = λ _. refl; sense = refl };
+        left = record { state = ap (leaves (kindOf w) (stateOf u s)) (sense-is w (shown w (fetched c main locateLength))); cause = refl; kept = λ y. absurd (z y); refused = λ _. refl; sense = refl };
         answer = refl;
         wrong = refl;
         main-same = refl;
@@ -72,13 +73,17 @@ module _ (u : Record) (c : Ccw) (s : Running) (main store : List ℕ) where
   unfolding decided
   decided-accepted v r main′ store′ o e h = rw (e, pick-true (0 =? 0) o (refused c (stateOf u s) main store 0) refl) h
 
+  -- by a cause that has read nothing, and shows none
+  pub unread-ends : (w : ℕ) (r : Ended) → r ≡ refusedEnd c s w → bytesRead w ≡ 0 → (w ≡ 0 → ⊥) → Ends u c s r main store (refused c (stateOf u s) main store w)
+  unfolding shown
+  unread-ends w r e k = refused-ends w 0 (zeros locateLength) r e (sym k) (sym (pick-false _ _ _ (unread-shows w k)))
+
   -- x is a command that a table decides
 
-  -- refused, by a cause that shows no parameters
-  pub refused-by : (x : Out) (v : ℕ) (o : Out) (w : ℕ) (r : Ended) → x ≡ decided c (stateOf u s) main store v o → r ≡ refusedEnd c s w (zeros locateLength) → v ≡ w → w =? 0 ≡ false → w =? 39 ≡ false
+  -- refused, by a cause that has read nothing
+  pub refused-by : (x : Out) (v : ℕ) (o : Out) (w : ℕ) (r : Ended) → x ≡ decided c (stateOf u s) main store v o → r ≡ refusedEnd c s w → v ≡ w → w =? 0 ≡ false → bytesRead w ≡ 0
       → Ends u c s r main store x
-  unfolding shown
-  refused-by x v o w r d e f n m = rw d (decided-refused v w r o f (eqb-false _ _ n) (refused-ends w (zeros locateLength) r e (sym (pick-false _ _ _ m)) (eqb-false _ _ n)))
+  refused-by x v o w r d e f n k = rw d (decided-refused v w r o f (eqb-false _ _ n) (unread-ends w r e k (eqb-false _ _ n)))
 
   -- accepted
   pub accepted-by : (x : Out) (v : ℕ) (o : Out) (t : Running) (moved can blocks : ℕ) (r : Ended) (main′ store′ : List ℕ)
@@ -89,12 +94,12 @@ module _ (u : Record) (c : Ccw) (s : Running) (main store : List ℕ) where
 
   -- by its parameters, and all that it moves is those
   pub decided-by : (x : Out) (v : ℕ) (o : Out) (t : Running) (n : ℕ) (p : List ℕ) (r : Ended)
-      → x ≡ decided c (stateOf u s) main store v o → r ≡ pick (v =? 0) (acceptedEnd c t n n 0) (refusedEnd c s v p)
-      → (v =? 0 ≡ false → p ≡ shown v (fetched c main locateLength))
+      → x ≡ decided c (stateOf u s) main store v o → r ≡ pick (v =? 0) (acceptedEnd c t n n 0) (parametersRefused c s v n p)
+      → (v =? 0 ≡ false → bytesRead v ≡ n) → (v =? 0 ≡ false → p ≡ shown v (fetched c main locateLength))
       → t .kept ≡ (s .kept && c .command =? NO-OPERATION) → out (ended (stateOf u t) n n 0) main store ≡ o → Ends u c s r main store x
   unfolding decided
-  decided-by x v o t n p r d e q k f =
+  decided-by x v o t n p r d e b q k f =
       rw (d, e, ← f)
       (pick-both (λ (y : Ended) (z : Out). Ends u c s y main store z) (v =? 0) _ _ _ _
       (λ _. accepted-ends t n n 0 _ main store _ refl k refl refl refl)
-      (λ b. refused-ends v p _ refl (q b) (eqb-false _ _ b)))
+      (λ z. refused-ends v n p _ refl (sym (b z)) (q z) (eqb-false _ _ z)))

@@ -2,7 +2,8 @@
 --     answerWords, answerBytes   an answer as the code carries it, and its bytes
 --     marked                     those bytes, where the length is wrong
 --     wrongBy                    the length is wrong: of an accepted command alone
---     endOf                      what `end` makes, whole; acceptedEnd, refusedEnd   of a command that is accepted, or refused showing these parameters
+--     endOf                      what `end` makes, whole; acceptedEnd   of a command that is accepted
+--     parametersRefused          of one that its parameters refuse, so many bytes of which were read; refusedEnd   of one that has read none
 --     Leaves                     what is left of the unit is what the definition's command left, and nothing in it is open
 --     Ends                       so is all that a command gives: the promise of every command
 -- Assumes nothing.
@@ -13,6 +14,7 @@ use mathlib.Core.List.{List, _++_}
 use lib.ListN.{set}
 use Rattle.numbers.specs.Choice.{_=?_}
 use Rattle.numbers.specs.Big.{bytes4}
+use Rattle.slices.specs.Parts.{zeros}
 use Rattle.model.specs.declared.ccw.Ccw.{Ccw}
 use Rattle.model.specs.declared.kind.Kind.{Kind}
 use Rattle.model.specs.declared.kind.Kind.the-variants.{Accepted, ProgramCheck, UnitCheck}
@@ -59,9 +61,12 @@ endOf c s moved can blocks cause sense = record {
 abbrev pub acceptedEnd : Ccw → Running → ℕ → ℕ → ℕ → Ended
 acceptedEnd c s moved can blocks = endOf c s moved can blocks 0 noSense
 
--- a refusal has moved nothing
-abbrev pub refusedEnd : Ccw → Running → ℕ → List ℕ → Ended
-refusedEnd c s cause parameters = endOf c s 0 0 0 cause (senseShowing cause parameters)
+-- the parameters are those that its cause shows
+abbrev pub parametersRefused : Ccw → Running → ℕ → ℕ → List ℕ → Ended
+parametersRefused c s cause read parameters = endOf c s read 0 0 cause (senseShowing cause parameters)
+
+abbrev pub refusedEnd : Ccw → Running → ℕ → Ended
+refusedEnd c s cause = parametersRefused c s cause 0 (zeros locateLength)
 
 -- in a chain that found record u, of a command that found state s
 pub record Leaves (u : Record) (c : Ccw) (s : Running) (l : Left) (o : Out) : Type 0 where

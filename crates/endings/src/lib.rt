@@ -12,11 +12,9 @@ use unit_state::Running;
 use unit_state::carried;
 ghost use mathlib.Core.Path.{_≡_};
 ghost use Prim.Native.Nat.{_≤_, _<_};
-ghost use Rattle.slices.specs.Parts.{zeros};
-ghost use Rattle.model.specs.Parameters.{locateLength};
 ghost use Rattle.model.specs.Answer.{wrongLength};
 ghost use Rattle.model.specs.Safe.{CcwFits};
-ghost use Rattle.endings.specs.Ending.{answerWords, wrongBy, endOf, acceptedEnd, refusedEnd};
+ghost use Rattle.endings.specs.Ending.{answerWords, wrongBy, endOf, acceptedEnd, parametersRefused, refusedEnd};
 
 // Its bytes as two numbers: unit status, channel status, residual count (2); cause, zero, blocks moved (2).
 pub struct Answer {
@@ -101,18 +99,24 @@ pub fn accept(c: Ccw, s: Running, moved: usize, can: usize, blocks: usize) -> En
     end(c, s, moved, can, blocks, 0, Sense::none())
 }
 
-// A refusal has moved nothing. The parameters are those that its cause shows.
-pub fn refuse_showing(c: Ccw, s: Running, cause: u8, parameters: [u8; sizes::LOCATE]) -> Ended
-    requires { ⌜ CcwFits c ⌝ }
-    ensures { λ r. ⌜ r ≡ refusedEnd c s cause parameters ⌝ }
+// For what the parameters say, `read` bytes of which were read before that. `shown` are those that the cause shows: zeros, but for 39.
+pub fn refuse_parameters(
+    c: Ccw,
+    s: Running,
+    cause: u8,
+    read: usize,
+    shown: [u8; sizes::LOCATE],
+) -> Ended
+    requires { ⌜ CcwFits c × (read ≤ c .count) ⌝ }
+    ensures { λ r. ⌜ r ≡ parametersRefused c s cause read shown ⌝ }
 {
-    end(c, s, 0, 0, 0, cause, Sense::of(cause, parameters))
+    end(c, s, read, 0, 0, cause, Sense::of(cause, shown))
 }
 
-// For any cause but 39, which alone shows them.
+// Before any byte was read.
 pub fn refuse(c: Ccw, s: Running, cause: u8) -> Ended
     requires { ⌜ CcwFits c ⌝ }
-    ensures { λ r. ⌜ r ≡ refusedEnd c s cause (zeros locateLength) ⌝ }
+    ensures { λ r. ⌜ r ≡ refusedEnd c s cause ⌝ }
 {
-    refuse_showing(c, s, cause, [0u8; sizes::LOCATE])
+    refuse_parameters(c, s, cause, 0, [0u8; sizes::LOCATE])
 }

@@ -7,7 +7,7 @@
 use Prim.Native.Nat.{ℕ, zero, suc, _+_, _-_, _*_, _/_, _≤_, _<_, min}
 use mathlib.Core.Path.{_≡_, refl, _∙_}
 use mathlib.Core.Bool.{Bool, true, _&&_}
-use mathlib.Core.List.{List, [], _∷_, _++_, append-nil}
+use mathlib.Core.List.{List, [], _∷_, _++_}
 use lib.ListN.{length}
 use native.Mathlib.Nat.{mul-le-mul-left, div-lt-iff-lt-mul}
 use native.Mathlib.Omega.{arith}
@@ -32,8 +32,9 @@ use Rattle.model.specs.Commands.{Out, senseGiven, noOperation, defineExt
 use Rattle.model.specs.Exactly.{absent}
 use Rattle.numbers.proofs.Choice.{pick-ind}
 use Rattle.numbers.proofs.Joined.{both-true}
-use Rattle.model.proofs.Verdicts.{peel, never-given}
+use Rattle.model.proofs.Verdicts.{peel, never-given, every, every-first, every-all}
 use Rattle.model.proofs.Safety.{define-ok, locate-ok}
+use Rattle.model.proofs.Read.{verdict-read}
 use Rattle.model.proofs.Leaving.{leaves-ind}
 use Rattle.model.proofs.Steps.{past-channel, own-cases, Cases, step-cases}
 
@@ -138,27 +139,15 @@ located-bytes dev c s main store e =
 
 -- the causes are bytes too
 
-small-causes : List Rule → Bool
-small-causes [] = true
-small-causes (r ∷ rs) = r .cause <? 256 && small-causes rs
-
-small-first : (rs qs : List Rule) → small-causes rs ≡ true → firstOf qs < 256 → firstOf (rs ++ qs) < 256
-unfolding firstOf small-causes
-small-first [] qs e h = h
-small-first (r ∷ rs) qs e h =
-    let p = both-true _ _ e in
-    pick-ind (λ (n : ℕ). n < 256) _ _ _ (λ _. ltb-true _ _ (p .0)) (λ _. small-first rs qs (p .1) h)
-
-small-all : (rs : List Rule) → small-causes rs ≡ true → firstOf rs < 256
-unfolding firstOf
-small-all rs e = rw append-nil at (small-first rs [] e (omega arith))
+below-256 : (w : ℕ) → w <? 256 ≡ true → w < 256
+below-256 w e = ltb-true _ _ e
 
 pub verdict-small : (dev : Device) (c : Ccw) (s : State) (main store : List ℕ) → verdict dev c s main store < 256
-unfolding verdict causesOf channelCauses unitCauses defineExtentCauses extentCauses locateCauses locationCauses permissionCauses readIplCauses transferCauses small-causes
+unfolding verdict causesOf channelCauses unitCauses defineExtentCauses extentCauses locateCauses locationCauses permissionCauses readIplCauses transferCauses
 verdict-small dev c s main store =
-    small-first (channelCauses c main ++ unitCauses c s) (ownCauses dev c s main store) refl
-    (own-cases dev c s main store (λ rs. firstOf rs < 256)
-    (λ _. small-all _ refl) (λ _. small-all _ refl) (λ _. small-all _ refl) (λ _. small-all _ refl) (λ _. small-all _ refl) (small-all [] refl))
+    let all : (rs : List Rule) → every (λ (w : ℕ). w <? 256) rs ≡ true → firstOf rs < 256 = λ rs e. every-all (λ (w : ℕ). w < 256) _ below-256 rs e (omega arith) in
+    every-first (λ (w : ℕ). w < 256) _ below-256 (channelCauses c main ++ unitCauses c s) (ownCauses dev c s main store) refl
+    (own-cases dev c s main store (λ rs. firstOf rs < 256) (λ _. all _ refl) (λ _. all _ refl) (λ _. all _ refl) (λ _. all _ refl) (λ _. all _ refl) (all [] refl))
 
 -- blocks
 
@@ -212,7 +201,7 @@ module _ (dev : Device) (c : Ccw) (s : State) (main store : List ℕ) (h : 1 ≤
     main-bytes = m;
     store-bytes = d;
     cause-byte = rw (← e) (verdict-small dev c s main store);
-    moved-fits = omega arith;
+    moved-fits = rw (← e) (verdict-read dev c s main store);
     blocks-fit = omega arith;
   }
 

@@ -11,6 +11,7 @@ pub mod Kept
 pub mod Records
 pub mod Hosts
 pub mod Exactly
+pub mod Read
 pub mod Reached
 pub mod Alike
 pub mod AlikeVerdicts

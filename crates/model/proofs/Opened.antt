@@ -7,7 +7,7 @@ use Rattle.numbers.specs.Choice.{pick, oneOf}
 use Rattle.model.specs.Rules.{firstOf}
 use Rattle.model.specs.Lent.{ccwAt, flag, fetched, delivered, blockStart, blockCount, blockAt, blocksFrom, blocksInto, recordBytes, recordOf, newRecord}
 use Rattle.model.specs.Parameters.{extentIn, reservedIn, sizeIn, locatedIn, modifiersIn, replicationIn, processed, forbids, address, outside}
-use Rattle.model.specs.Causes.{allChained, callCauses, hostCauses, channelCauses, unitCauses, extentCauses, defineExtentCauses, permissionCauses, locationCauses, locateCauses, readIplCauses, transferCauses, ownCauses, causesOf, verdict}
+use Rattle.model.specs.Causes.{bytesRead, allChained, callCauses, hostCauses, channelCauses, unitCauses, extentCauses, defineExtentCauses, permissionCauses, locationCauses, locateCauses, readIplCauses, transferCauses, ownCauses, causesOf, verdict}
 use Rattle.model.specs.Sense.{rowIn, shown, senseOf}
 use Rattle.model.specs.Log.{withSense, withCounts, added3, added2, readCounted, writtenCounted, movementCounted, logOf, logReset}
 use Rattle.model.specs.Commands.{after, extentSet, locateSet, noOperation, defineExtent, locate, sent, sense, senseType, readLog, begun, read, write, wholeDevice, readIpl, accepted, refused, cleared, seen, decided, performed, step, defineDone, iplDone, locateDone, readDone, writeDone}
@@ -17,5 +17,5 @@ use Rattle.model.specs.Host.{resultOf, hostCallOf, setUp}
 use Rattle.model.specs.Reached.{found}
 
 unfoldable pub opened : ℕ
-unfolding bit anyBit zeros part put pad pick oneOf firstOf ccwAt flag fetched delivered blockStart blockCount blockAt blocksFrom blocksInto recordBytes recordOf newRecord extentIn reservedIn sizeIn locatedIn modifiersIn replicationIn processed forbids address outside allChained callCauses hostCauses channelCauses unitCauses defineExtentCauses extentCauses locateCauses locationCauses permissionCauses readIplCauses transferCauses ownCauses causesOf verdict rowIn shown senseOf withSense withCounts added3 added2 readCounted writtenCounted movementCounted logOf logReset after extentSet locateSet noOperation defineExtent defineDone locate locateDone sent sense senseType readLog begun read readDone write writeDone wholeDevice readIpl iplDone accepted refused cleared seen decided performed step wrongLength channelStatus residual answerOf goesOn stepAt next more run start callOf resultOf hostCallOf setUp found
+unfolding bit anyBit zeros part put pad pick oneOf firstOf ccwAt flag fetched delivered blockStart blockCount blockAt blocksFrom blocksInto recordBytes recordOf newRecord extentIn reservedIn sizeIn locatedIn modifiersIn replicationIn processed forbids address outside bytesRead allChained callCauses hostCauses channelCauses unitCauses defineExtentCauses extentCauses locateCauses locationCauses permissionCauses readIplCauses transferCauses ownCauses causesOf verdict rowIn shown senseOf withSense withCounts added3 added2 readCounted writtenCounted movementCounted logOf logReset after extentSet locateSet noOperation defineExtent defineDone locate locateDone sent sense senseType readLog begun read readDone write writeDone wholeDevice readIpl iplDone accepted refused cleared seen decided performed step wrongLength channelStatus residual answerOf goesOn stepAt next more run start callOf resultOf hostCallOf setUp found
 opened = 0

@@ -1,12 +1,14 @@
 -- Each place where 002 overrules 01 (docs/MISMATCHES.md), seen in whole calls: one table, one statement. Assumes nothing.
-use Prim.Native.Nat.{ℕ}
+use Prim.Native.Nat.{ℕ, _+_, _*_}
 use mathlib.Core.Path.{_≡_, refl}
 use mathlib.Core.List.{List, [], _∷_, _++_, map}
-use lib.ListN.{drop, replicate}
+use lib.ListN.{drop, replicate, getD}
 use Rattle.numbers.specs.Big.{be2, be3}
 use Rattle.model.specs.declared.record.Record.{Record}
-use Rattle.model.specs.Names.{NO-OPERATION, DEFINE-EXTENT, LOCATE, WRITE, READ-IPL, SENSE, READ-LOG, format, write-data, write-check}
+use Rattle.model.specs.Names.{NO-OPERATION, DEFINE-EXTENT, LOCATE, WRITE, READ-IPL, SENSE, READ-LOG, format, write-data, write-check, read-replicated, channel-status-at, residual-at}
 use Rattle.model.specs.Lent.{newRecord}
+use Rattle.model.specs.Answer.{answerSize}
+use Rattle.model.specs.Chain.{Called}
 use Rattle.model.proofs.Opened.{opened}
 use Rattle.model.proofs.Inputs.{Lent, lent, device, ccw, extent, location, Line, got, wanted, causeOf}
 
@@ -41,6 +43,24 @@ counted = record
 
 abbrev logged : ℕ → Lent
 logged count = record { chain = ccw READ-LOG 0 0x20 count; main = replicate 24 0xFF; store = device 1; unit = counted; answers = replicate 8 0 }
+
+-- of the answer to command i: its channel status, its residual and its cause
+abbrev leftOf : ℕ → Called → List ℕ
+leftOf i r = getD (r .answers) (i * answerSize + channel-status-at) 0 ∷ be2 (r .answers) (i * answerSize + residual-at) ∷ causeOf i r ∷ []
+
+-- a command that is refused, on four blocks
+abbrev refusedAt : ℕ → List ℕ → List ℕ → ℕ → ℕ → Line
+refusedAt i chain main left cause = record { input = lent 4 chain main; seen = leftOf i; want = 0 ∷ left ∷ cause ∷ [] }
+
+-- DEFINE EXTENT with these sixteen bytes, and a count of 20; LOCATE with these eight under an extent of this mask, and a count of 12
+abbrev badExtent : List ℕ → ℕ → Line
+badExtent p cause = refusedAt 0 (ccw DEFINE-EXTENT 0 0x00 20) (p ++ replicate 4 0) 4 cause
+
+abbrev longLocate : List ℕ
+longLocate = ccw DEFINE-EXTENT 0 0x40 16 ++ ccw LOCATE 16 0x00 12
+
+abbrev badLocation : ℕ → List ℕ → ℕ → Line
+badLocation mask p cause = refusedAt 1 longLocate ((mask ∷ drop 1 (extent 1 0 2)) ++ p ++ replicate 4 0) 4 cause
 
 abbrev pub lines : List Line
 lines =
@@ -81,6 +101,22 @@ lines =
       seen = λ r. r .unit .sense;
       want = 0x40 ∷ 0 ∷ 0 ∷ 0 ∷ 0 ∷ 0 ∷ 0 ∷ 0x10 ∷ replicate 16 0;
     }
+    -- 2.1.3 and 2.1.4: the parameters are transferred, and then checked: 16 or 8 bytes are not left, and no length is marked wrong
+    ∷ badExtent (0x80 ∷ drop 1 (extent 1 0 2)) 22 ∷ badExtent (0xC8 ∷ drop 1 (extent 1 0 2)) 23 ∷ badExtent (0xC0 ∷ 0 ∷ 0 ∷ 1 ∷ drop 4 (extent 1 0 2)) 24
+    ∷ badExtent (extent 1 2 1) 25 ∷ badExtent (extent 1 0 3) 26
+    ∷ badLocation 0xC0 (location 0x86 0 1 0) 32 ∷ badLocation 0xC0 (location 0x07 0 1 0) 33 ∷ badLocation 0xC0 (location write-data 0 0 0) 34
+    ∷ badLocation 0xC0 (location read-replicated 3 2 0) 35 ∷ badLocation 0xC0 (location write-data 0 4 0) 36 ∷ badLocation 0x40 (location write-data 0 1 0) 37
+    ∷ badLocation 0xC0 (location format 0 1 2) 39
+    ∷ record {
+      input = record { chain = longLocate; main = extent 1 0 2 ++ location write-data 0 1 0 ++ replicate 4 0; store = device 4; unit = newRecord 1 1; answers = replicate 16 0xFF };
+      seen = leftOf 1;
+      want = 0 ∷ 4 ∷ 38 ∷ [];
+    }
+    -- so the whole count is left where none was transferred: a short count, or a command out of its place
+    ∷ refusedAt 0 (ccw DEFINE-EXTENT 0 0x00 15) (extent 1 0 3) 15 20
+    ∷ refusedAt 1 (ccw DEFINE-EXTENT 0 0x40 16 ++ ccw DEFINE-EXTENT 0 0x00 20) (extent 1 0 2 ++ replicate 4 0) 20 21
+    ∷ refusedAt 0 (ccw LOCATE 0 0x00 12) (location write-data 0 0 0 ++ replicate 4 0) 12 30
+    ∷ refusedAt 1 (ccw DEFINE-EXTENT 0 0x40 16 ++ ccw LOCATE 16 0x00 7) (extent 1 0 2 ++ location write-data 0 0 0) 7 31
     ∷ []
 
 pub overruled : map got lines ≡ map wanted lines

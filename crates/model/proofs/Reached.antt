@@ -12,7 +12,7 @@ use mathlib.Core.Logic.{inl}
 use mathlib.Core.Bool.{true, false, false≢true}
 use mathlib.Core.List.{List}
 use lib.ListN.{length, getD}
-use native.Mathlib.Nat.{add-assoc, sub-zero}
+use native.Mathlib.Nat.{add-assoc}
 use native.Mathlib.Numerals.{add-one}
 use native.Mathlib.Omega.{arith}
 use borrow.Author.Tests.{eqb-true, ne-eqb}
@@ -47,7 +47,7 @@ module _ (dev : Device) (chain : List ℕ) where
 
   refused-answer : (c : Ccw) (s : State) (w : ℕ) (p : List ℕ) → (w ≡ 0 → ⊥) → answerOf c (refusal s w p) ≡ refusedAnswer c w
   unfolding answerOf channelStatus residual
-  refused-answer c s w p n = rw (channel-refused w _ false n, sub-zero) refl
+  refused-answer c s w p n = rw (channel-refused w _ false n) refl
 
   pub next-refused : (i : ℕ) (f : System) → (stepAt dev chain i f .done .cause ≡ 0 → ⊥) → (w : ℕ)
       → RefusedThere (ccwAt chain i) f (stepAt dev chain i f .done .cause) i (called w (next dev chain i f))

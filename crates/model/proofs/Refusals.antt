@@ -2,8 +2,8 @@
 --     call-refused      a call with cause 1 to 5 leaves all that it was lent as it was
 --     call-ran          a call with cause 0 is the run of its chain
 --     host-refused      so does a call from C, with cause 1 to 6
---     step-untouched    a refused command leaves store and main storage as they were, and of the record changes the sense
---                       alone; where it is a program check, nothing
+--     step-untouched    a refused command leaves store and main storage as they were, moves no block, and has read of its
+--                       parameters what its cause says; of the record it changes the sense alone, and as a program check nothing
 -- Assumes nothing.
 use Prim.Native.Nat.{ℕ, _/_}
 use mathlib.Core.Path.{_≡_, refl, _∙_}
@@ -18,7 +18,7 @@ use Rattle.model.specs.State.{State}
 use Rattle.numbers.specs.Choice.{pick}
 use Rattle.model.specs.Rules.{firstOf}
 use Rattle.model.specs.Lent.{ccwSize}
-use Rattle.model.specs.Causes.{callCauses, hostCauses, kindOf, verdict}
+use Rattle.model.specs.Causes.{callCauses, hostCauses, kindOf, bytesRead, verdict}
 use Rattle.model.specs.Log.{withSense}
 use Rattle.model.specs.Commands.{Out, after, senseGiven, refused, step}
 use Rattle.model.specs.Chain.{called, callOf, start, system, run}
@@ -59,7 +59,8 @@ pub record SameButSense (u v : Record) : Type 0 where
 pub record Untouched (s : State) (main store : List ℕ) (o : Out) : Type 0 where
   pub main-same : o .main ≡ main
   pub store-same : o .store ≡ store
-  pub nothing-moved : (o .done .moved ≡ 0) × (o .done .blocks ≡ 0)
+  pub parameters-read : o .done .moved ≡ bytesRead (o .done .cause)
+  pub no-block : o .done .blocks ≡ 0
   pub unit-check : SameButSense (s .unit) (o .done .state .unit)
   pub program-check : kindOf (o .done .cause) ≡ ProgramCheck → o .done .state .unit ≡ s .unit
 
@@ -70,7 +71,8 @@ refused-untouched c s main store w =
     record {
       main-same = refl;
       store-same = refl;
-      nothing-moved = (refl, refl);
+      parameters-read = refl;
+      no-block = refl;
       unit-check = leaves-ind (λ (t : State). SameButSense (s .unit) (t .unit)) (kindOf w) s (senseGiven w c main) same same
           (record { blocks-read = refl; blocks-written = refl; movements = refl; ready = refl; read-only = refl });
       program-check = λ e. rw e;

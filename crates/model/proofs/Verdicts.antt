@@ -6,6 +6,8 @@
 --     failed-upto   a verdict that the front of a table does not give: no rule there holds, and the rest gives it
 --     none-given    where no rule holds the verdict is 0
 --     never-given   a cause that no line of a table has is not its verdict
+--     every-first, every-all
+--                   what a test shows of each cause of a table holds of its verdict, if of the rest's, or of 0
 --     first-given   the cause of a rule that holds after rules that do not is the verdict
 --     line-exactly  the cause of a line is the verdict exactly where its rule holds and no rule before it does
 --     exactly       so a table that has no cause twice is given exactly
@@ -13,14 +15,14 @@
 use Prim.Native.Nat.{ℕ}
 use mathlib.Core.Path.{_≡_, refl, sym, _∙_}
 use mathlib.Core.Logic.{_↔_}
-use mathlib.Core.Bool.{Bool, true, false, not}
+use mathlib.Core.Bool.{Bool, true, false, not, _&&_}
 use mathlib.Core.List.{List, [], _∷_, _++_, append-nil}
 use borrow.Author.Tests.{eqb-false, ne-eqb, not-true}
 use Rattle.numbers.proofs.Joined.{both-true}
 use Rattle.numbers.specs.Choice.{_=?_, pick}
 use Rattle.model.specs.Rules.{Rule, firstOf}
 use Rattle.model.specs.Exactly.{Failed, absent, once, GivenExactly}
-use Rattle.numbers.proofs.Choice.{pick-both}
+use Rattle.numbers.proofs.Choice.{pick-ind, pick-both}
 
 pub first-here : (r : Rule) (rs : List Rule) → r .holds ≡ true → firstOf (r ∷ rs) ≡ r .cause
 unfolding firstOf pick
@@ -78,6 +80,21 @@ none-given (r ∷ rs) f = rw (f .0) (none-given rs (f .1))
 pub never-given : (w : ℕ) (rs : List Rule) → absent w rs ≡ true → (w ≡ 0 → ⊥) → firstOf rs ≡ w → ⊥
 unfolding firstOf
 never-given w rs a n e = n (sym (failed-upto w rs [] a (rw append-nil e) .1))
+
+-- each cause of the table passes a test
+abbrev pub every : (ℕ → Bool) → List Rule → Bool
+every test [] = true
+every test (r ∷ rs) = test (r .cause) && every test rs
+
+pub every-first : (P : ℕ → Type 0) (test : ℕ → Bool) → ((w : ℕ) → test w ≡ true → P w) → (rs qs : List Rule) → every test rs ≡ true → P (firstOf qs) → P (firstOf (rs ++ qs))
+unfolding firstOf
+every-first P test shows [] qs e h = h
+every-first P test shows (r ∷ rs) qs e h =
+    let p = both-true _ _ e in
+    pick-ind P _ _ _ (λ _. shows _ (p .0)) (λ _. every-first P test shows rs qs (p .1) h)
+
+pub every-all : (P : ℕ → Type 0) (test : ℕ → Bool) → ((w : ℕ) → test w ≡ true → P w) → (rs : List Rule) → every test rs ≡ true → P 0 → P (firstOf rs)
+every-all P test shows rs e h = rw append-nil at (every-first P test shows rs [] e (rw first-none h))
 
 first-given : (front back : List Rule) (r : Rule) → Failed front → r .holds ≡ true → firstOf (front ++ (r ∷ back)) ≡ r .cause
 unfolding firstOf pick

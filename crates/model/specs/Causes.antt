@@ -7,7 +7,7 @@
 --     locateCauses          30 to 39           from 32 on in locationCauses, from 36 on in permissionCauses
 --     readIplCauses         40
 --     transferCauses        41, 42             READ and WRITE
---     kindOf                how a cause ends its command
+--     kindOf                how a cause ends its command; bytesRead   what its command has read of its parameters
 --     badChain, badStore, noCommand and their like
 --                           rules of more than one test, each above its table; contracts cite them
 --     causesOf              all the lines that can apply to a command, in order; `verdict` is the first that holds
@@ -41,6 +41,13 @@ kindBy false false = UnitCheck
 
 abbrev pub kindOf : ℕ → Kind
 kindOf cause = kindBy (cause =? 0) (oneOf (10 ∷ 11 ∷ 12 ∷ 13 ∷ []) cause)
+
+-- 002, 2.1.3 and 2.1.4: the parameters are transferred, and then checked. So what they say is refused once they are read; a short
+-- count or a command out of its place before that
+unfoldable pub bytesRead : ℕ → ℕ
+bytesRead cause =
+    pick (oneOf (22 ∷ 23 ∷ 24 ∷ 25 ∷ 26 ∷ []) cause) extentLength
+    (pick (oneOf (32 ∷ 33 ∷ 34 ∷ 35 ∷ 36 ∷ 37 ∷ 38 ∷ 39 ∷ []) cause) locateLength 0)
 
 -- the call
 

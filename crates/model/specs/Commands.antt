@@ -32,7 +32,7 @@ use Rattle.model.specs.Names.{NO-OPERATION, DEFINE-EXTENT, LOCATE, READ,
 use Rattle.model.specs.Rules.{firstOf}
 use Rattle.model.specs.Lent.{fetched, delivered, blockCount, blocksFrom, blocksInto}
 use Rattle.model.specs.Parameters.{extentLength, extentIn, locateLength, locatedIn, address}
-use Rattle.model.specs.Causes.{kindOf, ownCauses, verdict}
+use Rattle.model.specs.Causes.{kindOf, bytesRead, ownCauses, verdict}
 use Rattle.model.specs.Sense.{shown, senseOf}
 use Rattle.model.specs.Log.{withSense, readCounted, writtenCounted, movementCounted, logOf, logReset}
 
@@ -168,9 +168,9 @@ module _ (dev : Device) where
       (pick (c .command =? SENSE-TYPE) (senseType c s main store)
       (readLog c s main store))))))))
 
--- a refused command moves nothing
+-- a refused command moves no block, and of its parameters what was read of them before the refusal
 abbrev pub refusal : State → ℕ → List ℕ → Done
-refusal s cause sense = ending s cause sense 0 0 0
+refusal s cause sense = ending s cause sense (bytesRead cause) 0 0
 
 -- the sense of a cause that is given to this command
 abbrev pub senseGiven : ℕ → Ccw → List ℕ → List ℕ

@@ -6,7 +6,7 @@
 --     Numbers        the numbers of a command's answer, whole, as its bytes show them
 -- A chain leaves a `Called`; one that the call refuses reaches no command. `proofs/Reached.antt` proves all of it of the run
 -- and of the call. Assumes nothing.
-use Prim.Native.Nat.{ℕ, zero, suc, _+_, _*_, _≤_, _<_}
+use Prim.Native.Nat.{ℕ, zero, suc, _+_, _-_, _*_, _≤_, _<_}
 use mathlib.Core.Path.{_≡_}
 use mathlib.Core.Bool.{false}
 use mathlib.Core.List.{List, [], _∷_, _++_}
@@ -17,7 +17,7 @@ use Rattle.model.specs.declared.ccw.Ccw.{Ccw}
 use Rattle.model.specs.declared.device.Device.{Device}
 use Rattle.model.specs.State.{Done}
 use Rattle.model.specs.Lent.{ccwAt}
-use Rattle.model.specs.Causes.{kindOf, causesOf}
+use Rattle.model.specs.Causes.{kindOf, bytesRead, causesOf}
 use Rattle.model.specs.Commands.{leaves, senseGiven}
 use Rattle.model.specs.Names.{residual-at, cause-at, blocks-at}
 use Rattle.model.specs.Answer.{unitStatus, channelBy, residual, answerSize, answerOf}
@@ -38,9 +38,9 @@ pub record Answered (dev : Device) (chain : List ℕ) (y : System) (i : ℕ) (r 
   pub kept : part (r .answers) (i * answerSize) answerSize ≡ answerOf (ccwAt chain i) (doneAt dev chain i y)
   pub exact : GivenExactly (causesOf dev (ccwAt chain i) (found dev chain i y .state) (found dev chain i y .main) (found dev chain i y .store)) (getD (r .answers) (i * answerSize + cause-at) 0)
 
--- "In every refused command the residual is the whole count and blocks moved is 0"
+-- the residual of a refused command is the count less the parameters that it has read, and "blocks moved is 0"
 abbrev pub refusedAnswer : Ccw → ℕ → List ℕ
-refusedAnswer c w = (unitStatus (kindOf w) ∷ channelBy (kindOf w) false ∷ []) ++ bytes2 (c .count) ++ (w ∷ 0 ∷ []) ++ bytes2 0
+refusedAnswer c w = (unitStatus (kindOf w) ∷ channelBy (kindOf w) false ∷ []) ++ bytes2 (c .count - bytesRead w) ++ (w ∷ 0 ∷ []) ++ bytes2 0
 
 -- command i, a CCW c that found system f, was refused by cause w: the chain leaves what it found, its answer put and, by a unit check, its sense
 pub record RefusedThere (c : Ccw) (f : System) (w i : ℕ) (r : Called) : Type 0 where

@@ -8,20 +8,17 @@ use mathlib.Core.Bool.{true, false, not, _&&_, and-true}
 use mathlib.Core.List.{List, [], _∷_, _++_}
 use native.Mathlib.Omega.{arith}
 use borrow.Author.Tests.{ne-eqb}
-use Rattle.numbers.specs.Choice.{_=?_, oneOf}
-use Rattle.numbers.proofs.Choice.{pick-false}
-use Rattle.slices.specs.Parts.{zeros}
+use Rattle.numbers.specs.Choice.{_=?_, oneOf, pick}
 use Rattle.model.specs.declared.ccw.Ccw.{Ccw}
 use Rattle.model.specs.declared.device.Device.{Device}
 use Rattle.model.specs.declared.record.Record.{Record}
 use Rattle.model.specs.Names.{NO-OPERATION, SENSE, SENSE-TYPE}
 use Rattle.model.specs.Rules.{firstOf}
-use Rattle.model.specs.Parameters.{locateLength}
-use Rattle.model.specs.Causes.{commands, channelCauses, unitCauses}
-use Rattle.model.specs.Sense.{shown}
+use Rattle.model.specs.Causes.{bytesRead, commands, channelCauses, unitCauses}
 use Rattle.model.specs.Log.{withSense, withCounts}
 use Rattle.model.specs.Commands.{out, ended, noOperation, performed, step}
-use Rattle.model.proofs.Verdicts.{first-here, first-later, first-none, never-given}
+use Rattle.model.proofs.Verdicts.{first-here, first-later, first-none}
+use Rattle.model.proofs.Read.{table-reads}
 use Rattle.model.proofs.Steps.{early-channel, early-unit, step-early, step-performed, performed-as}
 use Rattle.log.specs.Counts.{counted}
 use Rattle.unit_state.specs.declared.Running.{Running}
@@ -29,7 +26,7 @@ use Rattle.unit_state.specs.Standing.{passedOn, unitOf, stateOf, Sound}
 use Rattle.unit_state.proofs.Units.{passed-on}
 use Rattle.endings.specs.declared.Ended.{Ended}
 use Rattle.endings.specs.Ending.{acceptedEnd, refusedEnd, Ends}
-use Rattle.endings.proofs.Ends.{refused-ends, accepted-ends}
+use Rattle.endings.proofs.Ends.{unread-ends, accepted-ends}
 use Rattle.unit.specs.Received.{Received}
 
 -- a command that changed nothing but what the next one has before it
@@ -39,25 +36,24 @@ passed-out u s main store = rw (passed-on u s) refl
 
 -- the state is sound: that names the device and the store
 module _ {dev : Device} {u : Record} {c : Ccw} {s : Running} (main : List ℕ) {store : List ℕ} {r : Ended} (sound : Sound dev s store) where
-  -- refused before its own table is read, by a cause that shows no parameters
-  stopped : (w : ℕ) → firstOf (channelCauses c main ++ unitCauses c (stateOf u s)) ≡ w → (w ≡ 0 → ⊥) → (w ≡ 39 → ⊥) → r ≡ refusedEnd c s w (zeros locateLength)
+  -- refused before its own table is read, by a cause that has read nothing
+  stopped : (w : ℕ) → firstOf (channelCauses c main ++ unitCauses c (stateOf u s)) ≡ w → (w ≡ 0 → ⊥) → bytesRead w ≡ 0 → r ≡ refusedEnd c s w
       → Ends u c s r main store (step dev c (stateOf u s) main store)
-  unfolding shown
-  stopped w e n m f = rw (step-early dev c (stateOf u s) main store w e n) (refused-ends u c s main store w (zeros locateLength) r f (sym (pick-false _ _ _ (ne-eqb _ _ m))) n)
+  stopped w e n k f = rw (step-early dev c (stateOf u s) main store w e n) (unread-ends u c s main store w r f k n)
 
-  pub by-channel : {w : ℕ} → w ≡ firstOf (channelCauses c main) → (w ≡ 0 → ⊥) → r ≡ refusedEnd c s w (zeros locateLength) → Ends u c s r main store (step dev c (stateOf u s) main store)
-  unfolding channelCauses
-  by-channel {w} e n = stopped w (early-channel dev c (stateOf u s) main store w (sym e) n) n (λ m. never-given 39 (channelCauses c main) refl (λ z. omega arith) (sym e ∙ m))
+  pub by-channel : {w : ℕ} → w ≡ firstOf (channelCauses c main) → (w ≡ 0 → ⊥) → r ≡ refusedEnd c s w → Ends u c s r main store (step dev c (stateOf u s) main store)
+  unfolding channelCauses bytesRead oneOf pick
+  by-channel {w} e n = stopped w (early-channel dev c (stateOf u s) main store w (sym e) n) n (rw (sym e) at (table-reads 0 (channelCauses c main) refl (rw (sym e) (ne-eqb _ _ n))))
 
-  pub by-ready : firstOf (channelCauses c main) ≡ 0 → u .ready =? 0 && not (oneOf (SENSE ∷ SENSE-TYPE ∷ []) (c .command)) ≡ true → r ≡ refusedEnd c s 44 (zeros locateLength)
+  pub by-ready : firstOf (channelCauses c main) ≡ 0 → u .ready =? 0 && not (oneOf (SENSE ∷ SENSE-TYPE ∷ []) (c .command)) ≡ true → r ≡ refusedEnd c s 44
       → Ends u c s r main store (step dev c (stateOf u s) main store)
-  unfolding unitCauses stateOf unitOf counted withCounts withSense
-  by-ready e b = stopped 44 (early-unit dev c (stateOf u s) main store 44 e (first-here _ _ b)) (λ z. omega arith) (λ z. omega arith)
+  unfolding unitCauses stateOf unitOf counted withCounts withSense bytesRead oneOf pick
+  by-ready e b = stopped 44 (early-unit dev c (stateOf u s) main store 44 e (first-here _ _ b)) (λ z. omega arith) refl
 
   module _ (seen : Received c u main) where
-    pub by-list : oneOf commands (c .command) ≡ false → r ≡ refusedEnd c s 43 (zeros locateLength) → Ends u c s r main store (step dev c (stateOf u s) main store)
-    unfolding unitCauses stateOf unitOf counted withCounts withSense
-    by-list b = stopped 43 (early-unit dev c (stateOf u s) main store 43 (seen .channel) (first-later _ _ (seen .ready) ∙ first-here _ _ (ap not b))) (λ z. omega arith) (λ z. omega arith)
+    pub by-list : oneOf commands (c .command) ≡ false → r ≡ refusedEnd c s 43 → Ends u c s r main store (step dev c (stateOf u s) main store)
+    unfolding unitCauses stateOf unitOf counted withCounts withSense bytesRead oneOf pick
+    by-list b = stopped 43 (early-unit dev c (stateOf u s) main store 43 (seen .channel) (first-later _ _ (seen .ready) ∙ first-here _ _ (ap not b))) (λ z. omega arith) refl
 
     pub by-own : {k : ℕ} {main′ store′ : List ℕ} → c .command ≡ k → oneOf commands k ≡ true → Ends u c s r main′ store′ (performed dev c (stateOf u s) main store)
         → Ends u c s r main′ store′ (step dev c (stateOf u s) main store)

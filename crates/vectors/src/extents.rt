@@ -1,11 +1,13 @@
 // DEFINE EXTENT (01, causes 20 to 26; 002, 2.1.3). The 16 bytes stand at 0: mask, zero, block size,
-// offset; then first and last displacement. The device has blocks 0 to 7.
+// offset; then first and last displacement. The device has blocks 0 to 7. Parameters are
+// transferred and then checked (02, ask 1): after 22 to 26 the residual is the count less 16, after
+// 20 and 21 the whole count.
 use crate::ccws::DEFINE;
 use crate::ccws::IPL_BYTE;
 use crate::ccws::LAST_DEFINE;
 use crate::ccws::LAST_NOOP;
 
-pub const VECTORS: [u64; 114] = [
+pub const VECTORS: [u64; 149] = [
     // 4.1 P1: offset 2, displacements 0 to 5: blocks 2 to 7, accepted.
     0x00_0008_0008_0010_20,
     LAST_DEFINE,
@@ -151,4 +153,49 @@ pub const VECTORS: [u64; 114] = [
     LAST_DEFINE,
     0xC0_00_0000_00000000,
     0x00000000_00000001,
+    // 4.28 P2 with count 32: 26. 16 bytes were transferred, so 16 are left. Channel status is 00
+    // though flag 20 is off, the chain ends, and nothing is stored.
+    0x00_0010_0010_0020_22,
+    0x63_000000_40_00_0020,
+    LAST_NOOP,
+    0xC0_00_0000_00000002,
+    0x00000000_00000006,
+    0xA_0008_0008,
+    0xD_0000_0020,
+    // 4.29 The same with flag 20: the same answer.
+    0x00_0008_0008_0020_20,
+    0x63_000000_20_00_0020,
+    0xC0_00_0000_00000002,
+    0x00000000_00000006,
+    // 4.30 Count 17, mask 80: 22, and one byte is left.
+    0x00_0008_0008_0011_21,
+    0x63_000000_00_00_0011,
+    0x80_00_0000_00000002,
+    0x00000000_00000005,
+    0xD_0000_0011,
+    // 4.31 Count 1,088, 5 to 4: 25, and 1,072 bytes, 0430, are left.
+    0x00_0008_0008_0440_20,
+    0x63_000000_00_00_0440,
+    0xC0_00_0000_00000002,
+    0x00000005_00000004,
+    // 4.32 A second DEFINE EXTENT with count 32: 21. Its bytes, all FF, are not transferred, or it
+    // would be 22: the residual is the whole count.
+    0x00_0010_0010_0030_21,
+    DEFINE,
+    0x63_000010_00_00_0020,
+    0xC0_00_0000_00000002,
+    0x00000000_00000005,
+    0xD_0000_0030,
+    // 4.33 Count 15 and mask 80: 20 comes before 22, and the residual is the whole count.
+    0x00_0008_0008_0010_21,
+    0x63_000000_20_00_000F,
+    0x80_00_0000_00000002,
+    0x00000000_00000005,
+    0xD_0000_0010,
+    // 4.34 Not ready, count 32 and mask 80: 44 comes before 22, and the residual is the whole
+    // count.
+    0x01_0008_0008_0020_20,
+    0x63_000000_00_00_0020,
+    0x80_00_0000_00000002,
+    0x00000000_00000005,
 ];

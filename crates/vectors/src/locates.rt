@@ -1,7 +1,8 @@
 // LOCATE (01, causes 30 to 39; 002, 2.1.4). The extent's 16 bytes stand at 0 and the LOCATE's 8 at
 // 16: operation, replication count, block count, displacement. Where nothing else is said the
 // extent is the whole device, mask C0. 002 overrules 01 on modifier bit 3 (2.1.4) and on the sense
-// of 37 and 39 (5.1, 5.2).
+// of 37 and 39 (5.1, 5.2). Parameters are transferred and then checked (02, ask 1): after 32 to 39
+// the residual is the count less 8, after 30 and 31 the whole count.
 use crate::ccws::DEFINE;
 use crate::ccws::IPL_BYTE;
 use crate::ccws::LAST_DEFINE;
@@ -10,7 +11,7 @@ use crate::ccws::LAST_READ;
 use crate::ccws::LAST_WRITE;
 use crate::ccws::LOCATE;
 
-pub const VECTORS: [u64; 272] = [
+pub const VECTORS: [u64; 322] = [
     // 5.1 No extent in the chain: 30, message 2.
     0x00_0008_0008_0018_30,
     LAST_LOCATE,
@@ -337,4 +338,65 @@ pub const VECTORS: [u64; 272] = [
     0x04_0008_0008_0018_01,
     0x64_000000_00_00_0001,
     0xE_0000_0000,
+    // 5.47 P7 with count 16: 36. 8 bytes were transferred, so 8 are left. Channel status is 00
+    // though flag 20 is off; the chain ends, nothing is stored and no movement is counted.
+    0x00_0018_0018_0020_33,
+    DEFINE,
+    0x43_000010_40_00_0010,
+    LAST_READ,
+    0xC0_00_0000_00000002,
+    0x0000000A_0000000D,
+    0x06_00_0003_0000000C,
+    0xA_0010_0008,
+    0xD_0010_0010,
+    0xC_0000_0000,
+    // 5.48 The same with flag 20: the same answer.
+    0x00_0010_0010_0020_30,
+    DEFINE,
+    0x43_000010_20_00_0010,
+    0xC0_00_0000_00000002,
+    0x0000000A_0000000D,
+    0x06_00_0003_0000000C,
+    // 5.49 Format of one block with count 12: 39, and 4 bytes are left. Sense bytes 8 to 15 are the
+    // 8 that were transferred; main storage and block 3 stay.
+    0x00_0010_0010_001C_33,
+    DEFINE,
+    0x43_000010_00_00_000C,
+    0xC0_00_0000_00000000,
+    0x00000000_00000007,
+    0x04_00_0001_00000003,
+    0xE_0000_0000,
+    0xD_0010_000C,
+    0xB_0600_0002,
+    // 5.50 Operation byte 86, modifier bit 0, with count 9: 32, and one byte is left.
+    0x00_0010_0010_0019_30,
+    DEFINE,
+    0x43_000010_00_00_0009,
+    0xC0_00_0000_00000000,
+    0x00000000_00000007,
+    0x86_00_0001_00000003,
+    // 5.51 READ IPL, then a format with count 1,056: its mask 00 forbids it, 37, and 1,048 bytes,
+    // 0418, are left.
+    0x00_0010_0010_0430_30,
+    IPL_BYTE,
+    0x43_000010_00_00_0420,
+    0,
+    0,
+    0x04_00_0001_00000007,
+    // 5.52 Count 7 and operation byte 86: 31 comes before 32, and the residual is the whole count.
+    0x00_0010_0010_0018_31,
+    DEFINE,
+    0x43_000010_00_00_0007,
+    0xC0_00_0000_00000000,
+    0x00000000_00000007,
+    0x86_00_0001_00000003,
+    0xD_0010_0008,
+    // 5.53 No extent, count 16 and operation byte 86: 30 comes before 32, and the residual is the
+    // whole count.
+    0x00_0008_0008_0020_31,
+    0x43_000010_00_00_0010,
+    0xC0_00_0000_00000000,
+    0x00000000_00000007,
+    0x86_00_0001_00000003,
+    0xD_0010_0010,
 ];

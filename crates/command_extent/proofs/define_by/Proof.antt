@@ -3,15 +3,16 @@ use mathlib.Core.Path.{sym, _∙_}
 use borrow.Author.Needs.{needs}
 use borrow.Author.Tests.{eq-eqb, ne-eqb}
 use Rattle.numbers.proofs.Choice.{pick-true, pick-false}
+use Rattle.slices.specs.Parts.{zeros}
 use Rattle.command_extent.specs.Answers.{definedBy}
 use Rattle.command_extent.proofs.define_by.Statement.{statement}
 use Rattle.command_extent.proofs.define_by.Tie as tie
 
 returns : tie.Need-returns
-unfolding definedBy
+unfolding definedBy zeros
 returns c =
     let told = c .before .before .number .ensures ∙ c .before .before .before .define-parameters .ensures in
-    rw told at (c .refuse .ensures) ∙ sym (pick-false _ _ _ (ne-eqb _ _ (rw told at (c .before .if1 .taken))))
+    rw told at (c .refuse-parameters .ensures) ∙ sym (pick-false _ _ _ (ne-eqb _ _ (rw told at (c .before .if1 .taken))))
 
 returns-2 : tie.Need-returns-2
 unfolding definedBy
@@ -24,7 +25,7 @@ define-by-spec = tie.close (tie.spec
     (search needs)  -- extent-in-requires
     (λ c κs. (c .before .before .pre .0, c .extent-in .ensures))  -- define-parameters-requires
     (search needs)  -- number-requires
-    (search needs)  -- refuse-requires
+    (search needs)  -- refuse-parameters-requires
     returns
     (search needs)  -- extent-set-requires
     (search needs)  -- accept-requires

@@ -3,7 +3,8 @@ use mathlib.Core.Path.{refl, _∙_}
 use borrow.Author.Needs.{needs}
 use borrow.Author.Tests.{lt-ltb, le-ltb}
 use Rattle.slices.specs.Parts.{zeros}
-use Rattle.model.specs.Causes.{defineExtentCauses}
+use Rattle.numbers.specs.Choice.{pick, oneOf}
+use Rattle.model.specs.Causes.{bytesRead, defineExtentCauses}
 use Rattle.model.proofs.Verdicts.{first-here, first-later}
 use Rattle.model.proofs.Steps.{performed-as}
 use Rattle.unit_state.specs.Standing.{stateOf}
@@ -13,7 +14,7 @@ use Rattle.command_extent.proofs.define_extent.Statement.{statement}
 use Rattle.command_extent.proofs.define_extent.Tie as tie
 
 returns : tie.Need-returns
-unfolding defineExtentCauses stateOf
+unfolding defineExtentCauses stateOf bytesRead oneOf pick
 returns c =
     let first = c .before .before .before .before .before in
     let a = first .args in
@@ -21,7 +22,7 @@ returns c =
     (c .refuse .ensures) (first-here _ _ (lt-ltb _ _ (c .before .if1 .taken))) refl refl
 
 returns-2 : tie.Need-returns-2
-unfolding defineExtentCauses stateOf
+unfolding defineExtentCauses stateOf bytesRead oneOf pick
 returns-2 c =
     let first = c .before .before .before .before .before .before in
     let a = first .args in

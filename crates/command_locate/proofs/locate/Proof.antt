@@ -4,7 +4,8 @@ use native.Mathlib.Omega.{arith}
 use borrow.Author.Needs.{needs}
 use borrow.Author.Tests.{lt-ltb}
 use Rattle.slices.specs.Parts.{zeros}
-use Rattle.model.specs.Causes.{locateCauses}
+use Rattle.numbers.specs.Choice.{pick, oneOf}
+use Rattle.model.specs.Causes.{bytesRead, locateCauses}
 use Rattle.model.proofs.Verdicts.{first-here, first-later}
 use Rattle.model.proofs.Steps.{performed-as}
 use Rattle.unit_state.specs.Standing.{stateOf}
@@ -15,7 +16,7 @@ use Rattle.command_locate.proofs.locate.Statement.{statement}
 use Rattle.command_locate.proofs.locate.Tie as tie
 
 returns : tie.Need-returns
-unfolding locateCauses stateOf
+unfolding locateCauses stateOf bytesRead oneOf pick
 returns c =
     let first = c .before .before .before .before in
     let a = first .args in
@@ -23,7 +24,7 @@ returns c =
     (c .refuse .ensures) (first-here _ _ (c .before .if1 .taken)) refl refl
 
 returns-2 : tie.Need-returns-2
-unfolding locateCauses stateOf
+unfolding locateCauses stateOf bytesRead oneOf pick
 returns-2 c =
     let first = c .before .before .before .before .before .before in
     let a = first .args in

@@ -19,7 +19,7 @@ unfolding locatedBy
 returns c =
     let first = c .before .before .before .before .before .before .before in
     let told = rw (first .pre .2) at (c .before .before .before .number .ensures ∙ c .before .before .before .before .locate-parameters .ensures) in
-    rw (c .before .shown-by .ensures, told) at (c .refuse-showing .ensures) ∙ sym (pick-false _ _ _ (ne-eqb _ _ (rw told at (c .before .before .if1 .taken))))
+    rw (c .before .shown-by .ensures, told) at (c .refuse-parameters .ensures) ∙ sym (pick-false _ _ _ (ne-eqb _ _ (rw told at (c .before .before .if1 .taken))))
 
 located-in-requires : tie.Need-located-in-requires
 located-in-requires c κs =
@@ -45,7 +45,7 @@ locate-by-spec = tie.close (tie.spec
     locate-parameters-requires
     (search needs)  -- number-requires
     (search needs)  -- shown-by-requires
-    (search needs)  -- refuse-showing-requires
+    (search needs)  -- refuse-parameters-requires
     returns
     (search needs)  -- movement-counted-requires
     located-in-requires

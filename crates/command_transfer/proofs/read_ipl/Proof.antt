@@ -3,7 +3,8 @@ use mathlib.Core.Path.{refl, sym, ap, _∙_}
 use mathlib.Core.Bool.{not}
 use native.Mathlib.Omega.{arith}
 use borrow.Author.Needs.{needs}
-use Rattle.model.specs.Causes.{readIplCauses}
+use Rattle.numbers.specs.Choice.{pick, oneOf}
+use Rattle.model.specs.Causes.{bytesRead, readIplCauses}
 use Rattle.model.proofs.Verdicts.{first-here, first-later, first-none}
 use Rattle.model.proofs.Lengths.{in-store}
 use Rattle.model.proofs.Steps.{performed-as}
@@ -14,7 +15,7 @@ use Rattle.command_transfer.proofs.read_ipl.Statement.{statement}
 use Rattle.command_transfer.proofs.read_ipl.Tie as tie
 
 returns : tie.Need-returns
-unfolding readIplCauses stateOf
+unfolding readIplCauses stateOf bytesRead oneOf pick
 returns c =
     let tested = c .before in
     let first = tested .before .before .before .before in

@@ -6,10 +6,10 @@ use Rattle.endings.proofs.refuse.Tie as tie
 
 returns : tie.Need-returns
 unfolding zeros
-returns c = c .refuse-showing .ensures
+returns c = c .refuse-parameters .ensures
 
 pub refuse-spec : {M : Type 1} → statement M
 refuse-spec = tie.close
     (tie.spec
-    (search needs)  -- refuse-showing-requires
+    (search needs)  -- refuse-parameters-requires
     returns)
