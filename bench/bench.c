@@ -74,6 +74,14 @@ static void read_15_pairs(struct machine *m)
     }
 }
 
+// One READ of 16 blocks, a piece for each block.
+static void read_16_pieces(struct machine *m)
+{
+    extent(m);
+    locate(m, 6, 16);
+    for (unsigned i = 0; i < 16; i++) word(m, 0x42, DATA_AT + BLOCK * i, i < 15 ? 0x80 : 0, BLOCK);
+}
+
 static void refused_call(struct machine *m)
 {
     word(m, 0x03, 0, 0, 1);
@@ -94,6 +102,7 @@ static void no_operations(struct machine *m)
 static const struct { const char *name; void (*make)(struct machine *); uint32_t result; } workloads[] = {
     {"read-1", read_1, 3}, {"read-127", read_127, 3}, {"write-1", write_1, 3}, {"write-127", write_127, 3},
     {"write-1-short", write_1_short, 3}, {"write-127-short", write_127_short, 3}, {"locate-read-15", read_15_pairs, 31},
+    {"read-16-pieces", read_16_pieces, 18},
     {"refused-cause-1", refused_call, 256}, {"refused-first-command", refused_first, 1}, {"no-operation-32", no_operations, 32},
 };
 #define WORKLOADS (sizeof workloads / sizeof *workloads)

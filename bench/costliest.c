@@ -1,5 +1,6 @@
-// The most that one call can cost (docs/SPEED.md): a chain of 32 CCWs that stores as many blocks, and moves as many bytes, as
-// any chain can. READ IPL twice, then fifteen times LOCATE for 65,535 blocks and WRITE of 65,535 bytes.
+// The most that one call can cost (docs/SPEED.md): a chain of 32 CCWs that stores as many blocks as any chain can, and then moves
+// as many bytes as it can. READ IPL, then fifteen times LOCATE for 65,535 blocks and WRITE of 65,535 bytes; the last WRITE has a
+// second piece of as many.
 //   costliest lib|second CALLS     the wall seconds of a call: the least, the middle and the largest of so many
 //   costliest compare              one call of each leaves the same bytes
 #define _POSIX_C_SOURCE 200809L
@@ -45,11 +46,11 @@ static struct machine *make(void)
     static const uint8_t locates[16] = {5, 0, 0xFF, 0xFF, 0, 0, 0, 0, 5, 0, 0xFF, 0xFF, 0, 1, 0, 0};
     memcpy(m->storage, locates, 16);
     word(m, 0x02, BOOT_AT, 0x40, 512);
-    word(m, 0x02, BOOT_AT, 0x40, 512);
     for (unsigned i = 0; i < 15; i++) {
         word(m, 0x43, 8 * (i % 2), 0x40, 8);
-        word(m, 0x41, DATA_AT, i < 14 ? 0x60 : 0x20, MOST);
+        word(m, 0x41, DATA_AT, i < 14 ? 0x60 : 0x80, MOST);
     }
+    word(m, 0x41, DATA_AT, 0x20, MOST);
     return m;
 }
 

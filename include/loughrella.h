@@ -20,10 +20,15 @@ extern "C" {
 #endif
 
 /* Grows where a caller may have to change something.
+ *   3  Data chaining: flag 80 goes on with the same command in the next CCW. It was refused by cause 10. Chains without it are
+ *      run as before. Where it is used there may be fewer answers than CCWs: who finds a CCW's answer by the CCW's number
+ *      counts the pieces that were reached (see answers). And who takes unit status 00 for a program check looks for channel
+ *      status 20, for the answer of a piece that is not the last is all zero. A chain whose CCWs all have flag 80 or 40 is
+ *      refused by cause 5; it was run where one had 80 and not 40.
  *   2  The residual of a command that its parameters refused (causes 22 to 26, 32 to 39) is the count less the parameters,
  *      which were read. It was the whole count: who took it for that takes the count from the CCW.
  *   1  The first. */
-#define LOUGHRELLA_VERSION 2
+#define LOUGHRELLA_VERSION 3
 
 #define LOUGHRELLA_BLOCK_SIZE 512u       /* bytes of a block */
 #define LOUGHRELLA_MAX_BLOCKS 131072u    /* blocks of a store */
@@ -35,25 +40,34 @@ extern "C" {
 
 /* Runs one command chain on one device.
  *
- * chain    8 bytes per CCW: command, data address (3), flags, ignored, count (2). It ends at the first CCW without flag
- *          40 hexadecimal; what follows is not looked at. Only read.
- * storage  main storage, 0 to 16,777,216 bytes. A command's data area is its count of bytes from its address.
+ * chain    8 bytes per CCW: command, data address (3), flags, ignored, count (2). Flags, in hexadecimal: 80 goes on with the
+ *          same command in the next CCW, its next piece, whose command byte is ignored; 40 chains the next command; 20
+ *          suppresses incorrect length. Next to 80 the other two mean nothing: a command has those of its final piece. The
+ *          chain ends at the first CCW with neither 80 nor 40; what follows is not looked at. Only read.
+ * storage  main storage, 0 to 16,777,216 bytes. A piece's data area is its count of bytes from its address; the command's data
+ *          is that of its pieces, one after the other, and its count is their sum. Pieces may overlap: what is stored is
+ *          stored in order, so that the later bytes stay.
  * store    the device, 1 to 131,072 blocks of 512 bytes, in a row.
  * record   the unit record, 34 bytes, any values: sense (24), blocks read (3), blocks written with check (3), access
  *          movements (2), ready (1), read-only (1). For the last two 0 is no and any other value is yes. It is what the
  *          unit remembers from one call to the next; loughrella_record sets one up.
- * answers  at least as long as the chain. Each command reached gets 8 bytes, in order: unit status, channel status,
- *          residual count (2), cause, zero, blocks moved (2). After causes 22 to 26 the unit has read the parameters and the
- *          residual is the count less 16, after 32 to 39 the count less 8, after any other refusal the whole count. The
- *          bytes of commands not reached stay as they are.
+ * answers  at least as long as the chain. Each piece reached gets 8 bytes, in order and with no gap: unit status, channel
+ *          status, residual count (2), cause, zero, blocks moved (2). Reached are the first piece of a command and each one
+ *          where bytes moved; a command without flag 80 is one piece. The residual is the piece's own. The command's statuses,
+ *          cause and blocks moved are in the last of its pieces that was reached; the answers before it are all zero. After
+ *          causes 22 to 26 the unit has read the 16 bytes of parameters, after 32 to 39 the 8 bytes, and they are not left;
+ *          after any other refusal all is left, and the first piece alone is reached. Bytes of answers beyond those stay as
+ *          they are.
  *
- * Returns 256 times a cause plus the number of commands reached. With cause 0 that is 1 to 32 commands, and what each
- * did is in its answer. With causes 1 to 6 no command was reached and no byte of any buffer was changed.
+ * Returns 256 times a cause plus the number of answers. With cause 0 that is 1 to 32: a piece that is reached counts as a
+ * command reached. With causes 1 to 6 no command was reached and no byte of any buffer was changed.
  *
  * The most that one call can cost: 983,025 blocks stored, that is 503,308,800 bytes, nearly all of them zeros (fifteen short
- * WRITEs, each after a LOCATE for 65,535 blocks; on a smaller device 15 times its blocks), and 984,169 bytes moved to or
- * from main storage. On a 2-core x86-64 virtual machine that was 0.02 seconds, up to 0.12 where the cores were busy, and up to
- * 0.16 where the system had yet to give the store its memory (docs/SPEED.md).
+ * WRITEs, each after a LOCATE for 65,535 blocks; on a smaller device 15 times its blocks); or 1,966,570 bytes moved to or from
+ * main storage (a READ IPL of 512 bytes, a LOCATE, and one transfer of 30 pieces of 65,535; on a device of at least 3,840
+ * blocks). The two do not come in one chain: one that stores that many blocks moves at most 1,049,192 bytes.
+ * The first was 0.07 to 0.11 seconds on a busy 2-core x86-64 virtual machine; longer, where the system has yet to give the
+ * store its memory (docs/SPEED.md).
  */
 uint32_t loughrella_run(const uint8_t *chain, size_t chain_len, uint8_t *storage, size_t storage_len, uint8_t *store,
                         size_t store_len, uint8_t *record, size_t record_len, uint8_t *answers, size_t answers_len);
@@ -62,7 +76,7 @@ uint32_t loughrella_run(const uint8_t *chain, size_t chain_len, uint8_t *storage
  * Returns 0; or 256 times LOUGHRELLA_BAD_RECORD, with nothing written, where the record is not 34 bytes. */
 uint32_t loughrella_record(uint8_t *record, size_t record_len, uint8_t ready, uint8_t read_only);
 
-/* The two parts of the result of loughrella_run. */
+/* The two parts of the result of loughrella_run: the cause, and the number of answers. */
 #define LOUGHRELLA_CAUSE(result) ((result) / 256u)
 #define LOUGHRELLA_REACHED(result) ((result) % 256u)
 
@@ -75,17 +89,18 @@ enum loughrella_cause {
     LOUGHRELLA_BAD_STORE = 2,     /* store length 0, no multiple of 512, or over 131,072 blocks */
     LOUGHRELLA_BAD_STORAGE = 3,   /* main storage over 16,777,216 bytes */
     LOUGHRELLA_BAD_ANSWERS = 4,   /* answers shorter than the chain */
-    LOUGHRELLA_ENDLESS_CHAIN = 5, /* every CCW has flag 40 */
+    LOUGHRELLA_ENDLESS_CHAIN = 5, /* every CCW has flag 80 or 40 */
     LOUGHRELLA_BAD_RECORD = 6,    /* the unit record is not 34 bytes */
 
-    /* program checks: unit status 00, channel status 20; the unit did not see the command */
-    LOUGHRELLA_BAD_FLAGS = 10,      /* a flag other than 40 and 20 is on */
-    LOUGHRELLA_NO_COUNT = 11,       /* the count is 0 */
-    LOUGHRELLA_OUTSIDE_STORAGE = 12, /* the data area leaves main storage */
-    LOUGHRELLA_NO_COMMAND = 13,     /* the low four bits of the command are 0 or 8 */
+    /* program checks: unit status 00, channel status 20; the unit did not see the command. 13 first, then 10 to 12 piece by
+     * piece; whichever piece it is, the answer is the first piece's, with its own count as residual */
+    LOUGHRELLA_BAD_FLAGS = 10,       /* a flag other than 80, 40 and 20 is on */
+    LOUGHRELLA_NO_COUNT = 11,        /* the count is 0 */
+    LOUGHRELLA_OUTSIDE_STORAGE = 12, /* the data area leaves main storage; not tested for NO-OPERATION */
+    LOUGHRELLA_NO_COMMAND = 13,      /* the low four bits of the command, of its first piece, are 0 or 8 */
 
     /* unit checks: unit status 0E, and new sense in the record */
-    LOUGHRELLA_EXTENT_SHORT = 20,       /* DEFINE EXTENT: count under 16 */
+    LOUGHRELLA_EXTENT_SHORT = 20,       /* DEFINE EXTENT: the sum of its counts is under 16 */
     LOUGHRELLA_EXTENT_STANDS = 21,      /* an extent stands already in this chain */
     LOUGHRELLA_BAD_MASK = 22,           /* mask bits 0-1 are 10, or one of bits 2, 3, 6, 7 is on, or byte 1 is not 0 */
     LOUGHRELLA_MAINTENANCE = 23,        /* mask bit 4 is on */
@@ -93,7 +108,7 @@ enum loughrella_cause {
     LOUGHRELLA_FIRST_AFTER_LAST = 25,   /* first displacement greater than last */
     LOUGHRELLA_EXTENT_OUTSIDE = 26,     /* the extent leaves the device */
     LOUGHRELLA_NO_EXTENT = 30,          /* LOCATE: no extent in this chain */
-    LOUGHRELLA_LOCATE_SHORT = 31,       /* count under 8 */
+    LOUGHRELLA_LOCATE_SHORT = 31,       /* the sum of its counts is under 8 */
     LOUGHRELLA_BAD_MODIFIER = 32,       /* modifier bit 0, 1 or 2 is on */
     LOUGHRELLA_BAD_OPERATION = 33,      /* not one of the five operations */
     LOUGHRELLA_BAD_BLOCK_COUNT = 34,    /* block count 0, or not 1 for a format */

@@ -8,6 +8,7 @@
 #define CCW_SIZE 8u
 #define ANSWER_SIZE 8u
 #define MAX_CHAIN 256u
+#define MAX_CCWS (MAX_CHAIN / CCW_SIZE)
 #define MAX_BLOCKS 131072u
 #define MAX_STORAGE 16777216u
 
@@ -19,7 +20,7 @@ enum { // Command bytes
     DEFINE_EXTENT = 0x63, READ_LOG = 0xA4, SENSE_TYPE = 0xE4
 };
 
-enum { CHAIN_COMMAND = 0x40, SUPPRESS_LENGTH = 0x20 };                    // Flags
+enum { CHAIN_DATA = 0x80, CHAIN_COMMAND = 0x40, SUPPRESS_LENGTH = 0x20 }; // Flags
 enum { CHANNEL_END_DEVICE_END = 0x0C, UNIT_CHECK = 0x02 };                // Unit status
 enum { INCORRECT_LENGTH = 0x40, PROGRAM_CHECK = 0x20 };                   // Channel status
 enum { FIRST_UNIT_CHECK = 20, NO_ALTERNATE = 39, LAST_CAUSE = 44 };       // Causes with a place of their own
@@ -49,9 +50,17 @@ static const uint8_t sense_of[LAST_CAUSE + 1 - FIRST_UNIT_CHECK][3] = {
 
 static const uint8_t device_type[7] = {0xFF, 0x00, 0x97, 0x01, 0x05, 0x12, 0x01};
 
-struct ccw {
+// One data area of a command: the address and count of a CCW.
+struct piece {
     uint32_t address, count;
-    uint8_t command, flags;
+};
+
+// A command: its first CCW and, while a CCW has flag 80, the next one (02, ask 2).
+struct command {
+    uint8_t code, flags; // the code of the first piece; the flags of the final one, where alone 40 and 20 mean something
+    uint32_t sum;        // of all counts: at most 32 times 65,535
+    const uint8_t *next; // the CCW after the final piece
+    struct piece piece[MAX_CCWS];
 };
 
 // What an accepted command can move, and the blocks it began.
@@ -61,7 +70,7 @@ struct work {
 
 // One chain's run: the buffers, the extent, the last accepted LOCATE and the command directly before.
 struct run {
-    uint8_t *storage, *store, *record;
+    uint8_t *storage, *store, *record, *answer; // the answer is the next to be written
     size_t storage_len;
     uint32_t device_blocks;
     uint32_t offset, first, last;             // the extent, if one stands
@@ -92,19 +101,46 @@ static uint32_t smaller(uint32_t a, uint32_t b) { return a < b ? a : b; }
 static void count24(uint8_t *field, uint32_t amount) { put24(field, smaller(get24(field) + amount, 0xFFFFFF)); }
 static void count16(uint8_t *field, uint32_t amount) { put16(field, smaller(get16(field) + amount, 0xFFFF)); }
 
-// Moves as much of the data as the count takes into the data area; returns the bytes moved.
-static uint32_t send(const struct run *r, const struct ccw *c, const uint8_t *data, uint32_t size)
+// Scatters as much of the data as the pieces take, in order: where they overlap the later bytes stay. Returns the bytes moved.
+static uint32_t send(const struct run *r, const struct command *c, const uint8_t *data, uint32_t size)
 {
-    uint32_t moved = smaller(c->count, size);
-    memcpy(r->storage + c->address, data, moved);
+    uint32_t moved = smaller(c->sum, size), left = moved;
+    for (const struct piece *p = c->piece; left > 0; p++) {
+        uint32_t part = smaller(p->count, left);
+        memcpy(r->storage + p->address, data, part);
+        data += part;
+        left -= part;
+    }
     return moved;
 }
 
-static uint32_t define_extent(struct run *r, const struct ccw *c, struct work *w)
+// Gathers as much from the pieces as they have and the size takes. Returns the bytes moved.
+static uint32_t gather(const struct run *r, const struct command *c, uint8_t *to, uint32_t size)
 {
-    const uint8_t *p = r->storage + c->address;
-    if (c->count < 16) return 20;
+    uint32_t moved = smaller(c->sum, size), left = moved;
+    for (const struct piece *p = c->piece; left > 0; p++) {
+        uint32_t part = smaller(p->count, left);
+        memcpy(to, r->storage + p->address, part);
+        to += part;
+        left -= part;
+    }
+    return moved;
+}
+
+// A command's parameters, of which the sum has enough: where they stand if the first piece has them all, else gathered.
+static const uint8_t *parameters(const struct run *r, const struct command *c, uint8_t *room, uint32_t size)
+{
+    if (c->piece[0].count >= size) return r->storage + c->piece[0].address;
+    gather(r, c, room, size);
+    return room;
+}
+
+static uint32_t define_extent(struct run *r, const struct command *c, struct work *w)
+{
+    uint8_t room[16];
+    if (c->sum < 16) return 20;
     if (r->extent) return 21;
+    const uint8_t *p = parameters(r, c, room, 16);
     if (p[0] >> 6 == 2 || (p[0] & 0x33) != 0 || p[1] != 0) return 22;
     if ((p[0] & 0x08) != 0) return 23;
     uint32_t size = get16(p + 2), offset = get32(p + 4), first = get32(p + 8), last = get32(p + 12);
@@ -120,11 +156,12 @@ static uint32_t define_extent(struct run *r, const struct ccw *c, struct work *w
     return 0;
 }
 
-static uint32_t locate(struct run *r, const struct ccw *c, struct work *w)
+static uint32_t locate(struct run *r, const struct command *c, struct work *w)
 {
-    const uint8_t *p = r->storage + c->address;
+    uint8_t room[8];
     if (!r->extent) return 30;
-    if (c->count < 8) return 31;
+    if (c->sum < 8) return 31;
+    const uint8_t *p = parameters(r, c, room, 8);
     if ((p[0] & 0xE0) != 0) return 32; // bit 3 is ignored (R1)
     uint32_t operation = OPERATION(p[0] & 0x0F), blocks = get16(p + 2), displacement = get32(p + 4), range = blocks;
     if ((operation & (READS | WRITES | FORMAT)) == 0) return 33;
@@ -145,7 +182,7 @@ static uint32_t locate(struct run *r, const struct ccw *c, struct work *w)
     return 0;
 }
 
-static uint32_t read_data(struct run *r, const struct ccw *c, struct work *w)
+static uint32_t read_data(struct run *r, const struct command *c, struct work *w)
 {
     if (r->before != LOCATE) return 41;
     if ((r->operation & READS) == 0) return 42;
@@ -157,21 +194,20 @@ static uint32_t read_data(struct run *r, const struct ccw *c, struct work *w)
 }
 
 // Every block of the LOCATE is stored: the data, then zeros (R2). With the check, all of them count (R3).
-static uint32_t write_data(struct run *r, const struct ccw *c, struct work *w)
+static uint32_t write_data(struct run *r, const struct command *c, struct work *w)
 {
     if (r->before != LOCATE) return 41;
     if ((r->operation & WRITES) == 0) return 42;
     w->can_move = BLOCK * r->block_count;
-    uint32_t moved = smaller(c->count, w->can_move);
     uint8_t *target = r->store + (size_t)BLOCK * r->block;
-    memcpy(target, r->storage + c->address, moved);
+    uint32_t moved = gather(r, c, target, w->can_move);
     memset(target + moved, 0, w->can_move - moved);
     w->blocks = (moved + BLOCK - 1) / BLOCK;
     if (r->operation == WRITE_CHECK) count24(r->record + BLOCKS_CHECKED, r->block_count);
     return 0;
 }
 
-static uint32_t read_ipl(struct run *r, const struct ccw *c, struct work *w)
+static uint32_t read_ipl(struct run *r, const struct command *c, struct work *w)
 {
     if (r->before != 0 && r->before != READ_IPL) return 40; // chained from a READ IPL it is accepted (R4)
     r->extent = true;
@@ -187,7 +223,7 @@ static uint32_t read_ipl(struct run *r, const struct ccw *c, struct work *w)
     return 0;
 }
 
-static uint32_t sense(struct run *r, const struct ccw *c, struct work *w)
+static uint32_t sense(struct run *r, const struct command *c, struct work *w)
 {
     send(r, c, r->record, SENSE_SIZE);
     memset(r->record, 0, SENSE_SIZE);
@@ -195,14 +231,14 @@ static uint32_t sense(struct run *r, const struct ccw *c, struct work *w)
     return 0;
 }
 
-static uint32_t sense_type(struct run *r, const struct ccw *c, struct work *w)
+static uint32_t sense_type(struct run *r, const struct command *c, struct work *w)
 {
     send(r, c, device_type, sizeof device_type);
     w->can_move = sizeof device_type;
     return 0;
 }
 
-static uint32_t read_log(struct run *r, const struct ccw *c, struct work *w)
+static uint32_t read_log(struct run *r, const struct command *c, struct work *w)
 {
     uint8_t log[SENSE_SIZE] = {[2] = 0x10, [7] = 0x68}; // Environmental Data Present (R7); format 6, message 8
     memcpy(log + 8, r->record + BLOCKS_READ, 3);
@@ -214,22 +250,37 @@ static uint32_t read_log(struct run *r, const struct ccw *c, struct work *w)
     return 0;
 }
 
-// Causes 13, 10, 11 and 12: what the channel refuses before the unit sees the command.
-static uint32_t program_check(const struct run *r, const struct ccw *c)
+// Takes a command from the chain, and what the channel refuses before the unit sees it: cause 13 by the first CCW's code, then
+// the causes of each piece in turn. After a CCW with flag 80 there is another, for the chain has one that ends it.
+static uint32_t fetch(const struct run *r, struct command *c, const uint8_t *ccw)
 {
-    if ((c->command & 0x07) == 0) return 13;
-    if ((c->flags & ~(CHAIN_COMMAND | SUPPRESS_LENGTH)) != 0) return 10;
-    if (c->count == 0) return 11;
-    if (c->command != NO_OPERATION && (size_t)c->address + c->count > r->storage_len) return 12;
+    uint8_t code = ccw[0], flags;
+    uint32_t sum = 0;
+    struct piece *p = c->piece;
+    if ((code & 0x07) == 0) return 13;
+    do {
+        uint32_t address = get24(ccw + 1), count = get16(ccw + 6);
+        flags = ccw[4];
+        if ((flags & ~(CHAIN_DATA | CHAIN_COMMAND | SUPPRESS_LENGTH)) != 0) return 10;
+        if (count == 0) return 11;
+        if (code != NO_OPERATION && (size_t)address + count > r->storage_len) return 12;
+        *p++ = (struct piece){address, count};
+        sum += count;
+        ccw += CCW_SIZE;
+    } while ((flags & CHAIN_DATA) != 0);
+    c->code = code;
+    c->flags = flags;
+    c->sum = sum;
+    c->next = ccw;
     return 0;
 }
 
 // The command as the unit sees it: causes 44, 43, then the command's own.
-static uint32_t unit_command(struct run *r, const struct ccw *c, struct work *w)
+static uint32_t unit_command(struct run *r, const struct command *c, struct work *w)
 {
-    if (c->command != NO_OPERATION && c->command != SENSE) memset(r->record, 0, SENSE_SIZE);
-    if (r->record[READY] == 0 && c->command != SENSE && c->command != SENSE_TYPE) return 44;
-    switch (c->command) {
+    if (c->code != NO_OPERATION && c->code != SENSE) memset(r->record, 0, SENSE_SIZE);
+    if (r->record[READY] == 0 && c->code != SENSE && c->code != SENSE_TYPE) return 44;
+    switch (c->code) {
     case NO_OPERATION: return 0;
     case DEFINE_EXTENT: return define_extent(r, c, w);
     case LOCATE: return locate(r, c, w);
@@ -244,28 +295,43 @@ static uint32_t unit_command(struct run *r, const struct ccw *c, struct work *w)
 }
 
 // New sense after a unit check; cause 39 also keeps the LOCATE's parameters (R5).
-static void set_sense(struct run *r, const struct ccw *c, uint32_t cause)
+static void set_sense(struct run *r, const struct command *c, uint32_t cause)
 {
     const uint8_t *bytes = sense_of[cause - FIRST_UNIT_CHECK];
     memset(r->record, 0, SENSE_SIZE);
     r->record[0] = bytes[0];
     r->record[1] = bytes[1];
     r->record[7] = bytes[2];
-    if (cause == NO_ALTERNATE) memcpy(r->record + 8, r->storage + c->address, 8);
+    if (cause == NO_ALTERNATE) gather(r, c, r->record + 8, 8);
 }
 
-static void put_answer(uint8_t *answer, uint8_t unit, uint8_t channel, uint32_t residual, uint32_t cause, uint32_t blocks)
+static void put_answer(struct run *r, uint8_t unit, uint8_t channel, uint32_t residual, uint32_t cause, uint32_t blocks)
 {
+    uint8_t *answer = r->answer;
     answer[0] = unit;
     answer[1] = channel;
     put16(answer + 2, residual);
     answer[4] = (uint8_t)cause;
     answer[5] = 0;
     put16(answer + 6, blocks);
+    r->answer += ANSWER_SIZE;
+}
+
+// A piece is reached if it is the first or bytes moved there. Answers each piece reached but the last: it is used up, and shows
+// zeros. Returns the last one's residual.
+static uint32_t answer_used(struct run *r, const struct command *c, uint32_t moved)
+{
+    const struct piece *p = c->piece;
+    for (; moved > p->count; p++) {
+        moved -= p->count;
+        memset(r->answer, 0, ANSWER_SIZE);
+        r->answer += ANSWER_SIZE;
+    }
+    return p->count - moved;
 }
 
 // The parameter bytes that a refused command has taken. They are transferred first and checked then (002, 2.1.3 and
-// 2.1.4; 02, ask 1), so causes 22 to 26 and 32 to 39 come after them. The counts held that many: 20 and 31 are tested before.
+// 2.1.4; 02, ask 1), so causes 22 to 26 and 32 to 39 come after them. The pieces held that many: 20 and 31 are tested before.
 static uint32_t taken(uint32_t cause)
 {
     if (cause >= 22 && cause <= 26) return 16;
@@ -273,31 +339,32 @@ static uint32_t taken(uint32_t cause)
     return 0;
 }
 
-// Runs one command and writes its answer; tells whether the chain may go on.
-static bool run_command(struct run *r, const struct ccw *c, uint8_t *answer)
+// Runs one command and writes its answers; tells whether the chain goes on. A program check is answered in the first piece alone.
+static bool run_command(struct run *r, struct command *c, const uint8_t *ccw)
 {
     struct work w = {0, 0};
-    uint32_t cause = program_check(r, c);
+    uint32_t cause = fetch(r, c, ccw);
     if (cause != 0) {
-        put_answer(answer, 0, PROGRAM_CHECK, c->count, cause, 0);
+        put_answer(r, 0, PROGRAM_CHECK, get16(ccw + 6), cause, 0);
         return false;
     }
     cause = unit_command(r, c, &w);
     if (cause != 0) {
         set_sense(r, c, cause);
-        put_answer(answer, CHANNEL_END_DEVICE_END | UNIT_CHECK, 0, c->count - taken(cause), cause, 0);
+        uint32_t residual = answer_used(r, c, taken(cause));
+        put_answer(r, CHANNEL_END_DEVICE_END | UNIT_CHECK, 0, residual, cause, 0);
         return false;
     }
-    bool incorrect = (c->flags & SUPPRESS_LENGTH) == 0 && c->count != w.can_move && c->command != NO_OPERATION;
-    uint32_t residual = c->count - smaller(c->count, w.can_move);
-    put_answer(answer, CHANNEL_END_DEVICE_END, incorrect ? INCORRECT_LENGTH : 0, residual, 0, w.blocks);
-    return !incorrect;
+    bool incorrect = (c->flags & SUPPRESS_LENGTH) == 0 && c->sum != w.can_move && c->code != NO_OPERATION;
+    uint32_t residual = answer_used(r, c, smaller(c->sum, w.can_move));
+    put_answer(r, CHANNEL_END_DEVICE_END, incorrect ? INCORRECT_LENGTH : 0, residual, 0, w.blocks);
+    return !incorrect && (c->flags & CHAIN_COMMAND) != 0;
 }
 
 static bool chain_ends(const uint8_t *chain, size_t chain_len)
 {
     for (size_t i = 4; i < chain_len; i += CCW_SIZE)
-        if ((chain[i] & CHAIN_COMMAND) == 0) return true;
+        if ((chain[i] & (CHAIN_DATA | CHAIN_COMMAND)) == 0) return true;
     return false;
 }
 
@@ -319,16 +386,11 @@ uint32_t second_run(const uint8_t *chain, size_t chain_len, uint8_t *storage, si
 {
     uint32_t cause = call_cause(chain, chain_len, storage_len, store_len, record_len, answers_len);
     if (cause != 0) return 256 * cause;
-    struct run r = {.storage = storage, .store = store, .record = record, .storage_len = storage_len,
+    struct run r = {.storage = storage, .store = store, .record = record, .answer = answers, .storage_len = storage_len,
                     .device_blocks = (uint32_t)(store_len / BLOCK)};
-    for (uint32_t reached = 0;;) {
-        const uint8_t *p = chain + CCW_SIZE * reached;
-        struct ccw c = {.command = p[0], .address = get24(p + 1), .flags = p[4], .count = get16(p + 6)};
-        bool chaining = run_command(&r, &c, answers + ANSWER_SIZE * reached);
-        reached++;
-        if (!chaining || (c.flags & CHAIN_COMMAND) == 0) return reached;
-        r.before = c.command;
-    }
+    struct command c;
+    for (const uint8_t *ccw = chain; run_command(&r, &c, ccw); ccw = c.next) r.before = c.code;
+    return (uint32_t)(r.answer - answers) / ANSWER_SIZE;
 }
 
 uint32_t second_record(uint8_t *record, size_t record_len, uint8_t ready, uint8_t read_only)

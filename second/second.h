@@ -1,4 +1,4 @@
-// The second program: document 01 as docs/MISMATCHES.md settles it, with ask 1 of document 02, written afresh in C.
+// The second program: document 01 as docs/MISMATCHES.md settles it, with asks 1 and 2 of document 02, written afresh in C.
 #ifndef SECOND_H
 #define SECOND_H
 
@@ -10,7 +10,7 @@ extern "C" {
 #endif
 
 // Runs one command chain. The five slices do not overlap; one of length 0 may be NULL.
-// Returns 256 times the call's cause plus the number of commands reached.
+// Returns 256 times the call's cause plus the number of answers, one for each piece of a command that was reached.
 uint32_t second_run(const uint8_t *chain, size_t chain_len, uint8_t *storage, size_t storage_len,
                     uint8_t *store, size_t store_len, uint8_t *record, size_t record_len,
                     uint8_t *answers, size_t answers_len);

@@ -39,7 +39,7 @@ static bool random_bytes(struct random *r, bool at_end)
             uint8_t *w = library.at[CHAIN] + i;
             w[1] = 0;
             w[2] &= 1;
-            w[4] &= 0x60;
+            w[4] &= run % 4 == 0 ? 0xE0 : 0x60; // with flag 80 too in one chain of four
             w[6] = 0;
             w[0] = listed[random_below(r, 9)];
         }
@@ -110,44 +110,56 @@ static bool null_storage(void)
     return true;
 }
 
-// One command whose data area is the whole of storage, which lies against the guard.
-static bool whole_area(struct random *r, const char *chain, uint32_t count, bool at_end)
+// A command whose data area is the whole of storage: a word, or two pieces of which the first has the rear `part` bytes. Tells
+// how many words were written.
+static size_t put_whole(uint8_t *to, uint8_t command, uint32_t count, uint32_t part)
+{
+    uint32_t front = count - part;
+    const uint8_t rear_word[8] = {command, 0, (uint8_t)(front >> 8), (uint8_t)front, 0x80, 0, (uint8_t)(part >> 8), (uint8_t)part};
+    const uint8_t front_word[8] = {command, 0, 0, 0, 0x20, 0, (uint8_t)(front >> 8), (uint8_t)front};
+    if (part > 0) memcpy(to, rear_word, 8);
+    memcpy(to + (part > 0 ? 8 : 0), front_word, 8);
+    return part > 0 ? 2 : 1;
+}
+
+// One such command. Storage lies against the guard.
+static bool whole_area(struct random *r, uint8_t command, uint32_t count, uint32_t part, bool at_end)
 {
     struct buffers library, twin;
-    size_t length[BUFFERS] = {text_bytes(NULL, MAX_CHAIN, chain), count, 1024, 34, 0};
+    uint8_t chain[16];
+    size_t length[BUFFERS] = {8 * put_whole(chain, command, count, part), count, 1024, 34, 0};
     length[ANSWERS] = length[CHAIN];
     buffers_place(&library, &twin, length, at_end);
     fill_random(r, &library);
-    text_bytes(library.at[CHAIN], MAX_CHAIN, chain);
+    memcpy(library.at[CHAIN], chain, length[CHAIN]);
     text_bytes(library.at[RECORD] + 32, 2, READY_RW);
-    uint8_t *last = library.at[CHAIN] + length[CHAIN] - 8;
-    last[6] = (uint8_t)(count >> 8);
-    last[7] = (uint8_t)count;
     buffers_copy(&library, &twin);
     return same_as_second(&library, &twin);
 }
 
 static bool whole_areas(struct random *r, bool at_end)
 {
-    static const char *const chains[] = {"04 000000 20 00 0000", "E4 000000 20 00 0000", "A4 000000 20 00 0000",
-                                         "02 000000 20 00 0000", "63 000000 20 00 0000"};
-    for (size_t i = 0; i < COUNT_OF(chains); i++)
-        for (uint32_t count = 1; count < 1100; count += count < 40 || (count > 500 && count < 520) ? 1 : 17)
-            if (!whole_area(r, chains[i], count, at_end)) return printf("  chain %s\n", chains[i]), false;
-    return whole_area(r, chains[0], 65535, at_end);
+    static const uint8_t commands[] = {0x04, 0xE4, 0xA4, 0x02, 0x63};
+    for (size_t i = 0; i < sizeof commands; i++)
+        for (uint32_t count = 1; count < 1100; count += count < 40 || (count > 500 && count < 520) ? 1 : 17) {
+            uint32_t part = random_below(r, count);
+            if (!whole_area(r, commands[i], count, 0, at_end) || !whole_area(r, commands[i], count, part, at_end))
+                return printf("  command %02X, %lu bytes, %lu of them first\n", commands[i], (unsigned long)count, (unsigned long)part), false;
+        }
+    return whole_area(r, commands[0], 65535, 0, at_end) && whole_area(r, commands[0], 65535, 65534, at_end);
 }
 
 // READ and WRITE of each block of a store that lies against the guard, into and from the whole of storage.
-static bool whole_transfer(struct random *r, uint8_t operation, uint32_t block, uint32_t blocks, uint32_t count, bool at_end)
+static bool whole_transfer(struct random *r, uint8_t operation, uint32_t block, uint32_t blocks, uint32_t count, uint32_t part, bool at_end)
 {
     struct buffers library, twin;
-    size_t length[BUFFERS] = {24, count, 3 * BLOCK, 34, 24};
+    uint8_t chain[32];
+    text_bytes(chain, 16, "02 000000 60 00 0001 43 000000 60 00 0008");
+    size_t words = 2 + put_whole(chain + 16, operation == 6 ? 0x42 : 0x41, count, part);
+    size_t length[BUFFERS] = {8 * words, count, 3 * BLOCK, 34, 8 * words};
     buffers_place(&library, &twin, length, at_end);
     fill_random(r, &library);
-    text_bytes(library.at[CHAIN], 24, "02 000000 60 00 0001 43 000000 60 00 0008 41 000000 20 00 0000");
-    if (operation == 6) library.at[CHAIN][16] = 0x42;
-    library.at[CHAIN][22] = (uint8_t)(count >> 8);
-    library.at[CHAIN][23] = (uint8_t)count;
+    memcpy(library.at[CHAIN], chain, length[CHAIN]);
     library.at[STORE][0] = operation; // the READ IPL brings the operation byte
     text_bytes(library.at[STORAGE], 8, "00000000 00000000");
     library.at[STORAGE][3] = (uint8_t)blocks;
@@ -164,8 +176,10 @@ static bool whole_transfers(struct random *r, bool at_end)
     for (size_t i = 0; i < COUNT_OF(operations); i++)
         for (uint32_t block = 0; block < 4; block++)
             for (uint32_t blocks = 0; blocks < 5; blocks++)
-                for (size_t k = 0; k < COUNT_OF(counts); k++)
-                    if (!whole_transfer(r, operations[i], block, blocks, counts[k], at_end)) return false;
+                for (size_t k = 0; k < COUNT_OF(counts); k++) {
+                    if (!whole_transfer(r, operations[i], block, blocks, counts[k], 0, at_end)) return false;
+                    if (!whole_transfer(r, operations[i], block, blocks, counts[k], random_below(r, counts[k]), at_end)) return false;
+                }
     return true;
 }
 

@@ -11,54 +11,60 @@
 struct call {
     const char *name;
     size_t length[BUFFERS];
-    bool endless; // every command word has flag 40
+    uint8_t last; // flags of the last command word; all others have flag 40
     uint32_t result;
 };
 
-// Chains are NO-OPERATIONs, the last without flag 40; so a good call with n words reaches n.
+// Chains are NO-OPERATIONs. The last word has neither flag 80 nor flag 40 in a good call, which so reaches all n words.
 static const struct call calls[] = {
-    {"1, chain of 0 bytes", {0, STORAGE_OF, 4096, 34, 64}, false, 0x100},
-    {"1, chain of 1 byte", {1, STORAGE_OF, 4096, 34, 64}, false, 0x100},
-    {"1, chain of 7 bytes", {7, STORAGE_OF, 4096, 34, 64}, false, 0x100},
-    {"1, chain of 8 bytes", {8, STORAGE_OF, 4096, 34, 64}, false, 1},
-    {"1, chain of 9 bytes", {9, STORAGE_OF, 4096, 34, 64}, false, 0x100},
-    {"1, chain of 12 bytes", {12, STORAGE_OF, 4096, 34, 64}, false, 0x100},
-    {"1, chain of 255 bytes", {255, STORAGE_OF, 4096, 34, 512}, false, 0x100},
-    {"1, chain of 256 bytes", {256, STORAGE_OF, 4096, 34, 256}, false, 32},
-    {"1, chain of 257 bytes", {257, STORAGE_OF, 4096, 34, 512}, false, 0x100},
-    {"1, chain of 264 bytes", {264, STORAGE_OF, 4096, 34, 512}, false, 0x100},
-    {"1, chain of 512 bytes", {512, STORAGE_OF, 4096, 34, 512}, false, 0x100},
-    {"2, store of 0 bytes", {8, STORAGE_OF, 0, 34, 8}, false, 0x200},
-    {"2, store of 1 byte", {8, STORAGE_OF, 1, 34, 8}, false, 0x200},
-    {"2, store of 511 bytes", {8, STORAGE_OF, 511, 34, 8}, false, 0x200},
-    {"2, store of 512 bytes", {8, STORAGE_OF, 512, 34, 8}, false, 1},
-    {"2, store of 513 bytes", {8, STORAGE_OF, 513, 34, 8}, false, 0x200},
-    {"2, store of 131,072 blocks less a byte", {8, STORAGE_OF, STORE_MAX - 1, 34, 8}, false, 0x200},
-    {"2, store of 131,072 blocks", {8, STORAGE_OF, STORE_MAX, 34, 8}, false, 1},
-    {"2, store of 131,072 blocks and a byte", {8, STORAGE_OF, STORE_MAX + 1, 34, 8}, false, 0x200},
-    {"2, store of 131,073 blocks", {8, STORAGE_OF, STORE_MAX + BLOCK, 34, 8}, false, 0x200},
-    {"3, no storage", {8, 0, 4096, 34, 8}, false, 1},
-    {"3, storage of 16,777,216 bytes", {8, MAX_STORAGE, 4096, 34, 8}, false, 1},
-    {"3, storage of 16,777,217 bytes", {8, MAX_STORAGE + 1, 4096, 34, 8}, false, 0x300},
-    {"4, no answers", {8, STORAGE_OF, 4096, 34, 0}, false, 0x400},
-    {"4, answers of 7 for 8", {8, STORAGE_OF, 4096, 34, 7}, false, 0x400},
-    {"4, answers of 8 for 8", {8, STORAGE_OF, 4096, 34, 8}, false, 1},
-    {"4, answers of 255 for 256", {256, STORAGE_OF, 4096, 34, 255}, false, 0x400},
-    {"4, answers of 257 for 256", {256, STORAGE_OF, 4096, 34, 257}, false, 32},
-    {"5, one word with flag 40", {8, STORAGE_OF, 4096, 34, 8}, true, 0x500},
-    {"5, 32 words with flag 40", {256, STORAGE_OF, 4096, 34, 256}, true, 0x500},
-    {"6, no record", {8, STORAGE_OF, 4096, 0, 8}, false, 0x600},
-    {"6, record of 33 bytes", {8, STORAGE_OF, 4096, 33, 8}, false, 0x600},
-    {"6, record of 34 bytes", {8, STORAGE_OF, 4096, 34, 8}, false, 1},
-    {"6, record of 35 bytes", {8, STORAGE_OF, 4096, 35, 8}, false, 0x600},
+    {"1, chain of 0 bytes", {0, STORAGE_OF, 4096, 34, 64}, 0x00, 0x100},
+    {"1, chain of 1 byte", {1, STORAGE_OF, 4096, 34, 64}, 0x00, 0x100},
+    {"1, chain of 7 bytes", {7, STORAGE_OF, 4096, 34, 64}, 0x00, 0x100},
+    {"1, chain of 8 bytes", {8, STORAGE_OF, 4096, 34, 64}, 0x00, 1},
+    {"1, chain of 9 bytes", {9, STORAGE_OF, 4096, 34, 64}, 0x00, 0x100},
+    {"1, chain of 12 bytes", {12, STORAGE_OF, 4096, 34, 64}, 0x00, 0x100},
+    {"1, chain of 255 bytes", {255, STORAGE_OF, 4096, 34, 512}, 0x00, 0x100},
+    {"1, chain of 256 bytes", {256, STORAGE_OF, 4096, 34, 256}, 0x00, 32},
+    {"1, chain of 257 bytes", {257, STORAGE_OF, 4096, 34, 512}, 0x00, 0x100},
+    {"1, chain of 264 bytes", {264, STORAGE_OF, 4096, 34, 512}, 0x00, 0x100},
+    {"1, chain of 512 bytes", {512, STORAGE_OF, 4096, 34, 512}, 0x00, 0x100},
+    {"2, store of 0 bytes", {8, STORAGE_OF, 0, 34, 8}, 0x00, 0x200},
+    {"2, store of 1 byte", {8, STORAGE_OF, 1, 34, 8}, 0x00, 0x200},
+    {"2, store of 511 bytes", {8, STORAGE_OF, 511, 34, 8}, 0x00, 0x200},
+    {"2, store of 512 bytes", {8, STORAGE_OF, 512, 34, 8}, 0x00, 1},
+    {"2, store of 513 bytes", {8, STORAGE_OF, 513, 34, 8}, 0x00, 0x200},
+    {"2, store of 131,072 blocks less a byte", {8, STORAGE_OF, STORE_MAX - 1, 34, 8}, 0x00, 0x200},
+    {"2, store of 131,072 blocks", {8, STORAGE_OF, STORE_MAX, 34, 8}, 0x00, 1},
+    {"2, store of 131,072 blocks and a byte", {8, STORAGE_OF, STORE_MAX + 1, 34, 8}, 0x00, 0x200},
+    {"2, store of 131,073 blocks", {8, STORAGE_OF, STORE_MAX + BLOCK, 34, 8}, 0x00, 0x200},
+    {"3, no storage", {8, 0, 4096, 34, 8}, 0x00, 1},
+    {"3, storage of 16,777,216 bytes", {8, MAX_STORAGE, 4096, 34, 8}, 0x00, 1},
+    {"3, storage of 16,777,217 bytes", {8, MAX_STORAGE + 1, 4096, 34, 8}, 0x00, 0x300},
+    {"4, no answers", {8, STORAGE_OF, 4096, 34, 0}, 0x00, 0x400},
+    {"4, answers of 7 for 8", {8, STORAGE_OF, 4096, 34, 7}, 0x00, 0x400},
+    {"4, answers of 8 for 8", {8, STORAGE_OF, 4096, 34, 8}, 0x00, 1},
+    {"4, answers of 255 for 256", {256, STORAGE_OF, 4096, 34, 255}, 0x00, 0x400},
+    {"4, answers of 257 for 256", {256, STORAGE_OF, 4096, 34, 257}, 0x00, 32},
+    {"5, one word with flag 40", {8, STORAGE_OF, 4096, 34, 8}, 0x40, 0x500},
+    {"5, 32 words with flag 40", {256, STORAGE_OF, 4096, 34, 256}, 0x40, 0x500},
+    {"5, one word with flag 80", {8, STORAGE_OF, 4096, 34, 8}, 0x80, 0x500},
+    {"5, the last word with flag 80", {16, STORAGE_OF, 4096, 34, 16}, 0x80, 0x500},
+    {"5, the last of 32 words with flag 80", {256, STORAGE_OF, 4096, 34, 256}, 0x80, 0x500},
+    {"5, the last word with flags 80 and 40", {16, STORAGE_OF, 4096, 34, 16}, 0xC0, 0x500},
+    {"5, the last word with flags 80, 40 and 20", {16, STORAGE_OF, 4096, 34, 16}, 0xE0, 0x500},
+    {"5, the last word with flag 20", {16, STORAGE_OF, 4096, 34, 16}, 0x20, 2},
+    {"6, no record", {8, STORAGE_OF, 4096, 0, 8}, 0x00, 0x600},
+    {"6, record of 33 bytes", {8, STORAGE_OF, 4096, 33, 8}, 0x00, 0x600},
+    {"6, record of 34 bytes", {8, STORAGE_OF, 4096, 34, 8}, 0x00, 1},
+    {"6, record of 35 bytes", {8, STORAGE_OF, 4096, 35, 8}, 0x00, 0x600},
 };
 
-static void fill_chain(const struct buffers *b, bool endless)
+static void fill_chain(const struct buffers *b, uint8_t last)
 {
     static const uint8_t word[8] = {0x03, 0, 0, 0, 0x40, 0, 0, 1};
     size_t length = b->length[CHAIN];
     for (size_t i = 0; i < length; i++) b->at[CHAIN][i] = word[i % 8];
-    if (!endless && length >= 8) b->at[CHAIN][(length - 1) / 8 * 8 + 4 < length ? (length - 1) / 8 * 8 + 4 : 4] = 0;
+    if (length >= 8) b->at[CHAIN][(length - 1) / 8 * 8 + 4 < length ? (length - 1) / 8 * 8 + 4 : 4] = last;
 }
 
 // Fills all but the chain so that a byte written anywhere shows; a ready unit with sense and counts.
@@ -81,7 +87,7 @@ static bool call_holds(const struct call *c, bool at_end)
 {
     struct buffers library, twin;
     buffers_place(&library, &twin, c->length, at_end);
-    fill_chain(&library, c->endless);
+    fill_chain(&library, c->last);
     fill_rest(&library);
     buffers_copy(&library, &twin);
     expect(&twin, c->result);
@@ -95,7 +101,7 @@ static bool call_holds(const struct call *c, bool at_end)
 static bool call_order(void)
 {
     for (unsigned broken = 1; broken < 64; broken++) {
-        struct call c = {"order", {16, STORAGE_OF, 4096, 34, 16}, (broken & 16) != 0, 0};
+        struct call c = {"order", {16, STORAGE_OF, 4096, 34, 16}, (uint8_t)((broken & 16) != 0 ? 0x80 : 0), 0};
         if ((broken & 1) != 0) c.length[CHAIN] = 12;
         if ((broken & 2) != 0) c.length[STORE] = 4095;
         if ((broken & 4) != 0) c.length[STORAGE] = MAX_STORAGE + 1;
@@ -108,19 +114,21 @@ static bool call_order(void)
     return true;
 }
 
-// 5 looks at every word of the slice: one word without flag 40, wherever it is, is enough; the run ends there.
-static bool call_end(void)
+// 5 looks at every word of the slice: one word without flags 80 and 40, wherever it is, is enough; the run ends there. Where all
+// words have flag 40 each is a command; where they have flag 80 all are pieces of the first, which alone is reached.
+static bool call_end(uint8_t link)
 {
     static const size_t length[BUFFERS] = {256, STORAGE_OF, 4096, 34, 256};
     for (uint32_t end = 0; end < 32; end++) {
         struct buffers library, twin;
+        uint32_t reached = (link & 0x80) != 0 ? 1 : end + 1;
         buffers_place(&library, &twin, length, true);
-        fill_chain(&library, true);
-        library.at[CHAIN][8 * end + 4] = 0;
+        fill_chain(&library, link);
+        for (uint32_t i = 0; i < 32; i++) library.at[CHAIN][8 * i + 4] = i == end ? 0 : link;
         fill_rest(&library);
         buffers_copy(&library, &twin);
-        expect(&twin, end + 1);
-        if (call_library(&library) != end + 1 || !buffers_equal(&library, &twin))
+        expect(&twin, reached);
+        if (call_library(&library) != reached || !buffers_equal(&library, &twin))
             return printf("  end at word %lu\n", (unsigned long)end), false;
     }
     return true;
@@ -161,7 +169,9 @@ void test_calls(void)
 {
     for (size_t i = 0; i < COUNT_OF(calls); i++) check("calls", calls[i].name, call_holds(&calls[i], true) && call_holds(&calls[i], false));
     check("calls", "the order of causes 1 to 6", call_order());
-    check("calls", "5, the end at each word", call_end());
+    check("calls", "5, the end at each word, flag 40", call_end(0x40));
+    check("calls", "5, the end at each word, flag 80", call_end(0x80));
+    check("calls", "5, the end at each word, flags 80 and 40", call_end(0xC0));
     check("calls", "record set-up, values", record_values());
     check("calls", "record set-up, lengths", record_lengths());
 }

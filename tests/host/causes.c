@@ -4,6 +4,7 @@
 #include "words.h"
 
 #include <stdio.h>
+#include <stdlib.h>
 
 #define ONE_MOVEMENT LOG("000000", "000000", "0001")
 
@@ -29,6 +30,9 @@ static const struct line channel_lines[] = {
      .answers = PROGRAM("0007", "0C")},
     {.name = "12, by the whole count", .why = "01: 7 bytes would fit, the count of 9 does not", .storage = "8*DD",
      .chain = "E4 000000 20 00 0009", .answers = PROGRAM("0009", "0C")},
+    {.name = "12, by the whole count of a READ", .why = "01: 512 bytes can move and would fit, the count of 513 does not",
+     .storage = DEVICE "06000001 00000003 8*DD 512*DD", .chain = DEFINE LOCATE "42 000020 20 00 0201",
+     .answers = DONE DONE PROGRAM("0201", "0C"), .log = ONE_MOVEMENT},
     {.name = "12, no storage at all", .why = "01", .storage = "", .chain = "04 000000 00 00 0018",
      .answers = PROGRAM("0018", "0C")},
     {.name = "12, last byte of the largest storage", .why = "01: FFFFFF + 1 is 16,777,216", .storage = "16777216*DD",
@@ -122,8 +126,8 @@ static const struct line sequence_lines[] = {
 
 // 01: "Order is the table's order, top to bottom". Each line breaks two neighbours; the upper one is given.
 static const struct line order_lines[] = {
-    {.name = "13 before 10", .why = "order", .storage = "", .chain = "00 000000 80 00 0000", .answers = PROGRAM("0000", "0D")},
-    {.name = "10 before 11", .why = "order", .storage = "", .chain = "03 000000 80 00 0000", .answers = PROGRAM("0000", "0A")},
+    {.name = "13 before 10", .why = "order", .storage = "", .chain = "00 000000 10 00 0000", .answers = PROGRAM("0000", "0D")},
+    {.name = "10 before 11", .why = "order", .storage = "", .chain = "03 000000 10 00 0000", .answers = PROGRAM("0000", "0A")},
     {.name = "11 before 12", .why = "order", .storage = "", .chain = "63 000001 00 00 0000", .answers = PROGRAM("0000", "0B")},
     {.name = "12 before 44", .why = "order", .record = NOT_READY, .storage = "", .chain = DEFINE_END,
      .answers = PROGRAM("0010", "0C")},
@@ -183,15 +187,16 @@ static bool command_bytes(void)
     return true;
 }
 
-// 10 for all 256 flag bytes: only 00, 20, 40 and 60 are free of it.
+// 10 for all 256 flag bytes: those of flags 80, 40 and 20 alone are free of it. With 80 (02, ask 2) the second CCW is the
+// first command's second piece, whatever 40 says.
 static bool flag_bytes(void)
 {
     for (unsigned flags = 0; flags < 256; flags++) {
         char chain[64];
-        bool chained = (flags & 0x40) != 0, good = flags == 0x00 || flags == 0x20 || flags == 0x40 || flags == 0x60;
+        bool two = (flags & 0xC0) == 0x40, good = flags % 0x20 == 0;
         struct line line = {.storage = "", .chain = chain, .answers = PROGRAM("0001", "0A")};
         snprintf(chain, sizeof chain, "03 000000 %02X 00 0001 03 000000 00 00 0001", flags);
-        if (good) line.answers = chained ? NOP_DONE NOP_DONE : NOP_DONE;
+        if (good) line.answers = two ? NOP_DONE NOP_DONE : NOP_DONE;
         if (!line_holds(&line)) return printf("  flags %02X\n", flags), false;
     }
     return true;
@@ -329,6 +334,45 @@ static bool residuals(void)
     return true;
 }
 
+// 02, ask 2: the same refusals in two pieces, in a row in main storage. The bytes that were read spread over them: the first
+// piece alone is reached if it has them all, and shows what is left of it; else it is used up, and the second shows the rest.
+static bool split_holds(const struct refusal *r, unsigned first, unsigned second)
+{
+    char chain[128], answers[128];
+    struct line line = {.record = r->record, .storage = r->storage, .chain = chain, .answers = answers, .sense = r->sense,
+                        .log = r->cause == 42 ? ONE_MOVEMENT : NULL};
+    unsigned long address = strtoul(r->command + 3, NULL, 16) + first;
+    snprintf(chain, sizeof chain, "%s%s 80 00 %04X FF %06lX 40 00 %04X " NOP_END, r->before, r->command, first, address, second);
+    if (r->taken <= first)
+        snprintf(answers, sizeof answers, "%s0E 00 %04X %02X 00 0000", r->answers, first - r->taken, r->cause);
+    else
+        snprintf(answers, sizeof answers, "%s" USED "0E 00 %04X %02X 00 0000", r->answers, second - (r->taken - first), r->cause);
+    if (!line_holds(&line)) return printf("  cause %u, pieces of %u and %u\n", r->cause, first, second), false;
+    return true;
+}
+
+static bool residuals_in_pieces(void)
+{
+    static const unsigned firsts[] = {1, 2, 7, 8, 9, 15, 16, 17, 300}, beyond[] = {0, 1, 8, 16, 60000};
+    for (size_t i = 0; i < COUNT_OF(refusals); i++)
+        for (size_t k = 0; k < COUNT_OF(firsts); k++)
+            for (size_t n = 0; n < COUNT_OF(beyond); n++) {
+                unsigned least = firsts[k] < refusals[i].least ? refusals[i].least - firsts[k] : 1; // of the second piece
+                if (!split_holds(&refusals[i], firsts[k], least + beyond[n])) return false;
+            }
+    return true;
+}
+
+// 20 and 31 go by the sum: one byte too few is refused in the first piece alone, which keeps its count.
+static bool short_sums(void)
+{
+    static const struct refusal extent = {20, 0, 1, NULL, "80000000" FILLED, "", "63 000000", "", SENSE_FEWER};
+    static const struct refusal locate = {31, 0, 1, NULL, DEVICE "86000001 00000000", DEFINE, "43 000010", DONE, SENSE_FEWER};
+    for (unsigned first = 1; first < 15; first++)
+        if (!split_holds(&extent, first, 15 - first) || (first < 7 && !split_holds(&locate, first, 7 - first))) return false;
+    return true;
+}
+
 // 20 and 31: every count that is too small stays whole, though the parameters are bad too.
 static bool short_counts(void)
 {
@@ -353,4 +397,6 @@ void test_causes(void)
     check("causes", "37 and 38, every mask with every operation", permissions());
     check("residuals", "every refusal, counts beyond its parameters", residuals());
     check("residuals", "20 and 31, every count", short_counts());
+    check("residuals", "every refusal in two pieces", residuals_in_pieces());
+    check("residuals", "20 and 31 by the sum of two pieces", short_sums());
 }

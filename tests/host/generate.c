@@ -17,6 +17,8 @@ struct maker {
     uint32_t operation, block_count;
     bool extent;
     bool careful;                   // nothing is damaged, so that the chain gets far
+    bool in_pieces;                 // many commands are in pieces
+    bool huge;                      // counts are summed up to more than 65,535
 };
 
 uint64_t random_next(struct random *r) // splitmix64
@@ -55,7 +57,7 @@ static void put32(uint8_t *to, uint32_t value)
     for (int i = 0; i < 4; i++) to[i] = (uint8_t)(value >> (24 - 8 * i));
 }
 
-// A command word with flag 40; now and then one that the channel or the unit refuses (13, 43, 10, 11, 12).
+// A command word, with flag 40 unless it has flag 80; now and then one that the channel or the unit refuses (13, 43, 10, 11, 12).
 static void put_word(struct maker *m, uint32_t command, uint32_t address, uint32_t flags, uint32_t count)
 {
     if (m->words == m->limit) return;
@@ -68,8 +70,9 @@ static void put_word(struct maker *m, uint32_t command, uint32_t address, uint32
         default: address = m->storage - count + 1 + (percent(m->r, 30) ? random_below(m->r, 1u << 24) : 0); break;
         }
     }
+    if ((flags & 0x80) == 0) flags |= 0x40;
     uint8_t word[8] = {(uint8_t)command, (uint8_t)(address >> 16), (uint8_t)(address >> 8), (uint8_t)address,
-                       (uint8_t)(flags | 0x40), (uint8_t)random_next(m->r), (uint8_t)(count >> 8), (uint8_t)count};
+                       (uint8_t)flags, (uint8_t)random_next(m->r), (uint8_t)(count >> 8), (uint8_t)count};
     put(m, CHAIN, 8 * (size_t)m->words, word, 8);
     m->words++;
 }
@@ -97,6 +100,78 @@ static uint32_t area(struct maker *m, uint32_t count)
 // Flag 20 always where the length would be wrong and the chain should go on, else half the time.
 static uint32_t suppress(struct maker *m, bool exact) { return percent(m->r, exact ? 40 : m->careful ? 100 : 75) ? 0x20 : 0; }
 
+// ---- Pieces (02, ask 2).
+
+// Flags of a piece with flag 80, where 40 and 20 mean nothing, and the command byte of the next one, which is ignored.
+static uint32_t link_flags(struct maker *m) { return 0x80 | (percent(m->r, 30) ? 0x40u : 0) | (percent(m->r, 30) ? 0x20u : 0); }
+static uint32_t later_byte(struct maker *m, uint32_t command) { return percent(m->r, 60) ? command : random_below(m->r, 256); }
+
+// How many of `most` bytes, one at least, the next piece has.
+static uint32_t some_part(struct maker *m, uint32_t most)
+{
+    uint32_t kind = random_below(m->r, 100);
+    if (kind < 30 && most > BLOCK) return BLOCK;
+    if (kind < 60) return between(m->r, 1, most < 16 ? most : 16);
+    return between(m->r, 1, most);
+}
+
+// Another place for a piece. Parameters are taken along.
+static uint32_t other_place(struct maker *m, uint32_t command, uint32_t address, uint32_t part)
+{
+    uint8_t bytes[64];
+    if (command == 0x03) return random_below(m->r, 1u << 24);
+    if (command != 0x63 && command != 0x43) return area(m, part);
+    if (part > sizeof bytes || address + part > m->storage) return address;
+    memcpy(bytes, m->library->at[STORAGE] + address, part);
+    return put_parameters(m, bytes, part);
+}
+
+// Pieces after the last one that a command can reach.
+static void put_more_pieces(struct maker *m, uint32_t command, uint32_t pieces)
+{
+    for (; pieces > 0; pieces--) {
+        uint32_t count = m->storage >= 65535 && percent(m->r, 60) ? 65535 : between(m->r, 1, m->storage < 600 ? m->storage + 1 : 600);
+        put_word(m, later_byte(m, command), area(m, count), pieces > 1 ? link_flags(m) : suppress(m, false), count);
+    }
+}
+
+// A command: a word, or pieces as far as the chain has room. Its bytes stand in a row; unless they must stay there, a piece may go
+// to another place, over other pieces too.
+static void put_command_at(struct maker *m, uint32_t command, uint32_t address, uint32_t flags, uint32_t count, bool stays)
+{
+    uint32_t pieces = m->in_pieces && percent(m->r, 45) ? percent(m->r, 85) ? between(m->r, 2, 4) : between(m->r, 2, 32) : 1;
+    uint32_t more = m->in_pieces && percent(m->r, 10) ? between(m->r, 1, 3) : 0, byte = command;
+    if (pieces > m->limit - m->words && percent(m->r, 85)) pieces = m->limit - m->words; // else its last ones are cut off
+    stays = stays || !m->in_pieces;
+    for (; pieces > 1 && count > 1; pieces--) {
+        uint32_t part = some_part(m, count - 1);
+        put_word(m, byte, stays || percent(m->r, 50) ? address : other_place(m, command, address, part), link_flags(m), part);
+        byte = later_byte(m, command);
+        address += part;
+        count -= part;
+    }
+    put_word(m, byte, stays || percent(m->r, 70) ? address : other_place(m, command, address, count), more > 0 ? link_flags(m) : flags, count);
+    put_more_pieces(m, command, more);
+}
+
+static void put_command(struct maker *m, uint32_t command, uint32_t address, uint32_t flags, uint32_t count)
+{
+    put_command_at(m, command, address, flags, count, false);
+}
+
+// A transfer of so many bytes, more than a count can have, or by one piece fewer or more: pieces of 65,535, then the rest.
+static void put_huge(struct maker *m, uint32_t command, uint32_t exact)
+{
+    uint32_t pieces = exact / 65535, rest = exact % 65535;
+    if (percent(m->r, 15)) pieces++;
+    else if (percent(m->r, 15)) pieces--;
+    if (rest == 0 || percent(m->r, 30)) rest = between(m->r, 1, 65535);
+    for (; pieces > 0; pieces--) put_word(m, command, area(m, 65535), link_flags(m), 65535);
+    put_word(m, later_byte(m, command), area(m, rest), suppress(m, false), rest);
+}
+
+// ---- Commands.
+
 static uint32_t some_count(struct maker *m, uint32_t exact)
 {
     uint32_t kind = random_below(m->r, 100), largest = m->storage < 65535 ? m->storage : 65535;
@@ -110,12 +185,12 @@ static void make_simple(struct maker *m, uint32_t command, uint32_t exact)
 {
     uint32_t count = some_count(m, exact);
     if (count > 2000 && percent(m->r, 80)) count = exact;
-    put_word(m, command, area(m, count), suppress(m, count == exact), count);
+    put_command(m, command, area(m, count), suppress(m, count == exact), count);
 }
 
 static void make_no_operation(struct maker *m)
 {
-    put_word(m, 0x03, random_below(m->r, 1u << 24), suppress(m, true), between(m->r, 1, 65535));
+    put_command(m, 0x03, random_below(m->r, 1u << 24), suppress(m, true), between(m->r, 1, 65535));
 }
 
 static void damage_extent(struct maker *m, uint8_t p[16], uint32_t *count)
@@ -152,7 +227,7 @@ static void make_extent(struct maker *m)
     put32(p + 12, m->last);
     uint32_t count = percent(m->r, 90) ? 16 : between(m->r, 16, 40);
     if (mishap(m, 25)) damage_extent(m, p, &count);
-    put_word(m, 0x63, put_parameters(m, p, 16), suppress(m, count == 16), count);
+    put_command(m, 0x63, put_parameters(m, p, 16), suppress(m, count == 16), count);
     m->extent = true;
 }
 
@@ -176,7 +251,7 @@ static void locate_parameters(struct maker *m, uint8_t p[8])
     static const uint8_t operations[16] = {6, 6, 6, 6, 6, 1, 1, 1, 1, 5, 5, 5, 2, 2, 2, 4};
     uint32_t size = m->last - m->first + 1, most = size < 65535 ? size : 65535;
     m->operation = operations[random_below(m->r, m->careful ? 15 : 16)];
-    uint32_t limit = percent(m->r, 70) ? 4 : percent(m->r, 70) ? 127 : 65535;
+    uint32_t limit = m->huge ? 65535 : percent(m->r, 70) ? 4 : percent(m->r, 70) ? 127 : 65535;
     m->block_count = between(m->r, 1, most < limit ? most : limit);
     if (m->operation == 4) m->block_count = 1;
     uint32_t range = m->block_count;
@@ -199,7 +274,7 @@ static void make_locate(struct maker *m)
     locate_parameters(m, p);
     uint32_t count = percent(m->r, 93) ? 8 : between(m->r, 8, 20);
     if (mishap(m, 14)) damage_locate(m, p, &count);
-    put_word(m, 0x43, put_parameters(m, p, 8), suppress(m, count == 8), count);
+    put_command(m, 0x43, put_parameters(m, p, 8), suppress(m, count == 8), count);
 }
 
 static void make_transfer(struct maker *m)
@@ -207,7 +282,8 @@ static void make_transfer(struct maker *m)
     bool writes = m->operation == 1 || m->operation == 5;
     uint32_t exact = BLOCK * m->block_count, count = some_count(m, exact);
     if (mishap(m, 5)) writes = !writes;
-    put_word(m, writes ? 0x41 : 0x42, area(m, count), suppress(m, count == exact), count);
+    if (m->huge && exact > 65535 && percent(m->r, 80)) put_huge(m, writes ? 0x41 : 0x42, exact);
+    else put_command(m, writes ? 0x41 : 0x42, area(m, count), suppress(m, count == exact), count);
 }
 
 // A READ that brings in the parameters of the next LOCATE, which lie in the store.
@@ -219,9 +295,9 @@ static void make_overwrite(struct maker *m)
     put(m, STORE, (size_t)BLOCK * (displacement - m->first + m->offset) + at, inner, 8);
     memcpy(p, (const uint8_t[8]){6, 0, 0, 1}, 8);
     put32(p + 4, displacement);
-    put_word(m, 0x43, put_parameters(m, p, 8), 0, 8);
-    put_word(m, 0x42, to, suppress(m, true), BLOCK);
-    put_word(m, 0x43, to + at, suppress(m, true), 8);
+    put_command(m, 0x43, put_parameters(m, p, 8), 0, 8);
+    put_command_at(m, 0x42, to, suppress(m, true), BLOCK, true);
+    put_command_at(m, 0x43, to + at, suppress(m, true), 8, true);
     make_transfer(m);
 }
 
@@ -345,14 +421,15 @@ static void make_record(struct random *r, uint8_t record[RECORD_SIZE], bool care
     record[33] = careful || percent(r, 88) ? 0 : (uint8_t)between(r, 1, 255);
 }
 
-// The last word ends the chain; now and then an earlier one does, or none.
+// The last word ends the chain; now and then an earlier one does, or none, with flag 40 or with flag 80.
 static void end_chain(struct maker *m)
 {
-    if (m->words == 0 || random_below(m->r, 250) == 0) return;
+    uint32_t way = random_below(m->r, 250);
+    if (m->words == 0 || way == 0) return;
     uint32_t last = percent(m->r, 8) ? random_below(m->r, m->words) : m->words - 1;
     size_t at = 8 * (size_t)last + 4;
     if (at >= m->library->length[CHAIN]) return;
-    uint8_t flags = m->library->at[CHAIN][at] & 0xBF;
+    uint8_t flags = (m->library->at[CHAIN][at] & 0x3F) | (way == 1 ? 0x80 : 0);
     put(m, CHAIN, at, &flags, 1);
 }
 
@@ -381,6 +458,12 @@ void generate(struct random *r, struct buffers *library, struct buffers *twin, u
     m.limit = percent(r, 4) ? 32 : percent(r, 50) ? between(r, 1, 6) : between(r, 1, 32);
     size_t length[BUFFERS] = {8 * (size_t)m.limit, some_storage(r), (size_t)BLOCK * some_blocks(r), RECORD_SIZE, 0};
     m.careful = percent(r, 40);
+    m.in_pieces = percent(r, 50);
+    m.huge = random_below(r, 70) == 0;
+    if (m.huge) {
+        length[STORAGE] = between(r, 65535, 140000);
+        length[STORE] = (size_t)BLOCK * between(r, 257, 900);
+    }
     if (large != 0) large_lengths(r, large - 1, length);
     m.storage = (uint32_t)length[STORAGE];
     m.blocks = (uint32_t)(length[STORE] / BLOCK);

@@ -24,6 +24,7 @@ int main(int argc, char **argv)
     buffers_open();
     test_lines();
     test_causes();
+    test_pieces();
     test_calls();
     test_bounds(seed);
     test_random(chains, seed);

@@ -78,7 +78,7 @@ static const struct line error_lines[] = {
     {.name = "a chain begins with no extent", .why = "01, errors; 002, 2.1.4: a LOCATE needs one in the same chain: 30",
      .storage = DEVICE "06000001 00000000", .chain = LOCATE_END, .answers = REFUSED("0008", "1E"), .sense = SENSE_SEQUENCE},
     {.name = "program check 10 keeps sense", .why = "01, errors and causes: the record is unchanged",
-     .record = PENDING_RECORD, .storage = DEVICE, .chain = "63 000000 80 00 0010",
+     .record = PENDING_RECORD, .storage = DEVICE, .chain = "63 000000 10 00 0010",
      .answers = PROGRAM("0010", "0A"), .sense = PENDING, .log = COUNTS_AFTER},
     {.name = "program check 11 keeps sense", .why = "01, errors and causes: the record is unchanged",
      .record = PENDING_RECORD, .storage = DEVICE, .chain = "63 000000 00 00 0000",

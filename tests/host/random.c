@@ -8,12 +8,16 @@
 #define SHOWN 40000u // after so many chains it is said how far it is
 #define LARGE 100u // this many inputs, or nearly, have large buffers
 #define CAUSES 45
+#define WORDS 32
 
 // Besides causes and accepted commands, what the inputs have to reach.
 enum kind {
     INCORRECT_LENGTH, SHORT_READ, SHORT_WRITE, NOT_BEGUN, LONG_TRANSFER, REPLICATED, MODIFIER_3, OVERWRITTEN, SECOND_IPL,
     SENSE_NOT_READY, READ_ONLY_READ, FULL_READ, FULL_CHECKED, FULL_MOVEMENTS, SENSE_KEPT, ALL_WORDS, WHOLE_STORAGE,
     WHOLE_STORE, EXTENT_LEFT, LOCATE_LEFT,
+    NOT_REACHED, UNREACHED_SUPPRESSES, UNREACHED_DOES_NOT, DENSE, LAST_RESIDUAL, GATHERED_EXTENT, GATHERED_LOCATE, SPREAD_EXTENT,
+    SPREAD_LOCATE, LATER_10, LATER_11, LATER_12, OVERLAP, ACROSS_BLOCKS, IDLE_40, IDLE_20, OTHER_BYTE, BYTE_13, NOP_OUTSIDE, SUM_65535,
+    SUM_131072, MOVED_65535, MOVED_131072, SIXTEEN_PIECES, SLICE_ENDS_80,
     KINDS
 };
 
@@ -21,8 +25,14 @@ static const char *const kind_names[KINDS] = {
     "incorrect length", "short READ", "short WRITE", "WRITE with blocks not begun", "count over the LOCATE's bytes", "replicated READ",
     "LOCATE with modifier bit 3", "LOCATE overwritten by an earlier command", "READ IPL from READ IPL", "SENSE while not ready",
     "READ while read-only", "blocks read filled", "blocks written with check filled", "access movements filled",
-    "program check with sense pending", "all 32 commands reached", "storage of 16,777,216", "store of 131,072 blocks",
+    "program check with sense pending", "all 32 words reached", "storage of 16,777,216", "store of 131,072 blocks",
     "bad extent with a count over 16", "bad LOCATE with a count over 8",
+    "a piece not reached", "length suppressed by a piece not reached", "incorrect length by a piece not reached",
+    "a command after a piece not reached", "a residual in a later piece", "DEFINE EXTENT gathered", "LOCATE gathered",
+    "a bad extent spread over pieces", "a bad LOCATE spread over pieces", "10 in a later piece", "11 in a later piece", "12 in a later piece",
+    "pieces of a READ that overlap", "a piece across blocks", "flag 40 with flag 80, not at the end", "flag 20 with flag 80, not at the end",
+    "another command byte in a piece", "a command byte of 13 in a piece", "NO-OPERATION with a piece outside", "a sum over 65,535",
+    "a sum over 131,072", "over 65,535 bytes moved", "over 131,072 bytes moved", "sixteen pieces reached", "a slice that ends with flag 80",
 };
 
 static const struct { uint8_t command; const char *name; } commands[] = {
@@ -35,18 +45,26 @@ static const uint8_t expected_causes[] = {1,  2,  3,  4,  5,  6,  10, 11, 12, 13
 
 struct tally {
     unsigned long causes[CAUSES], accepted[256], kinds[KINDS], reached;
+    unsigned long split_causes[CAUSES], split_accepted[256]; // of commands in pieces
 };
 
 // What must be kept of an input, because a run changes it.
 struct before {
     uint8_t record[RECORD_SIZE];
-    uint8_t parameters[32][16]; // storage at each word's address
+    uint8_t parameters[WORDS][16]; // storage at each word's address
 };
 
-// A command word taken apart, with its answer.
+struct piece {
+    uint32_t address, count, moved;
+    uint8_t command, flags;
+};
+
+// A command taken apart, with its answers: its pieces, how many of them were reached, and what the last of these shows.
 struct step {
-    uint32_t address, count, residual, blocks;
-    uint8_t command, flags, channel, cause;
+    struct piece piece[WORDS];
+    size_t first, pieces, reached; // its first word
+    uint32_t sum, moved, residual, blocks;
+    uint8_t command, flags, channel, cause; // the flags are the final piece's
 };
 
 static uint32_t big_endian(const uint8_t *p, int size)
@@ -60,74 +78,193 @@ static void keep(const struct buffers *b, struct before *kept)
 {
     memset(kept, 0, sizeof *kept);
     memcpy(kept->record, b->at[RECORD], b->length[RECORD] < RECORD_SIZE ? b->length[RECORD] : RECORD_SIZE);
-    for (size_t i = 0; i < 32 && 8 * i + 8 <= b->length[CHAIN]; i++) {
+    for (size_t i = 0; i < WORDS && 8 * i + 8 <= b->length[CHAIN]; i++) {
         size_t address = big_endian(b->at[CHAIN] + 8 * i + 1, 3), length = b->length[STORAGE];
         if (address < length) memcpy(kept->parameters[i], b->at[STORAGE] + address, length - address < 16 ? length - address : 16);
     }
 }
 
-static struct step step_at(const struct buffers *b, size_t i)
+static struct piece piece_at(const struct buffers *b, size_t word)
 {
-    const uint8_t *w = b->at[CHAIN] + 8 * i, *a = b->at[ANSWERS] + 8 * i;
-    return (struct step){.command = w[0], .address = big_endian(w + 1, 3), .flags = w[4], .count = big_endian(w + 6, 2),
-                         .channel = a[1], .residual = big_endian(a + 2, 2), .cause = a[4], .blocks = big_endian(a + 6, 2)};
+    const uint8_t *w = b->at[CHAIN] + 8 * word;
+    return (struct piece){.command = w[0], .address = big_endian(w + 1, 3), .flags = w[4], .count = big_endian(w + 6, 2)};
+}
+
+// The command at this word, whose first answer is at this place. Only the last one of its answers shows a status.
+static struct step step_at(const struct buffers *b, size_t word, size_t place)
+{
+    struct step s = {.first = word};
+    const uint8_t *a = b->at[ANSWERS] + 8 * place;
+    do {
+        s.piece[s.pieces] = piece_at(b, word + s.pieces);
+        s.sum += s.piece[s.pieces++].count;
+    } while ((s.piece[s.pieces - 1].flags & 0x80) != 0);
+    while (a[8 * s.reached] == 0 && a[8 * s.reached + 1] == 0) s.reached++;
+    a += 8 * s.reached++;
+    s.command = s.piece[0].command;
+    s.flags = s.piece[s.pieces - 1].flags;
+    s.channel = a[1];
+    s.cause = a[4];
+    s.residual = big_endian(a + 2, 2);
+    s.blocks = big_endian(a + 6, 2);
+    for (size_t i = 0; i < s.reached; i++) {
+        s.piece[i].moved = s.piece[i].count - (i + 1 == s.reached ? s.residual : 0);
+        s.moved += s.piece[i].moved;
+    }
+    return s;
 }
 
 static bool is_input(uint8_t command) { return command == 0x42 || command == 0x02 || command == 0x04 || command == 0xE4 || command == 0xA4; }
 
-// Whether a command before number i moved bytes into the eight at i's address.
-static bool was_overwritten(const struct buffers *b, size_t i)
+// Whether bytes that moved into a piece are among the first `size` of another's area.
+static bool meets(const struct piece *p, const struct piece *other, uint32_t size)
 {
-    uint32_t address = step_at(b, i).address;
-    for (size_t k = 0; k < i; k++) {
-        struct step s = step_at(b, k);
-        if (is_input(s.command) && s.address < address + 8 && address < s.address + (s.count - s.residual)) return true;
-    }
+    return p->moved > 0 && p->address < other->address + size && other->address < p->address + p->moved;
+}
+
+// Whether a command before this one moved bytes into its parameters, or near them.
+static bool was_overwritten(const struct step *steps, size_t i)
+{
+    for (size_t k = 0; k < i; k++)
+        for (size_t n = 0; is_input(steps[k].command) && n < steps[k].reached; n++)
+            for (size_t own = 0; own < steps[i].reached; own++)
+                if (meets(&steps[k].piece[n], &steps[i].piece[own], 8)) return true;
     return false;
 }
 
-static void tally_transfer(struct tally *t, const struct buffers *b, const struct before *kept, size_t i, const struct step *s)
+// The parameters as they stood before the run.
+static void gather(const struct step *s, const struct before *kept, uint8_t to[16])
 {
-    const uint8_t *p = kept->parameters[i - 1];
-    if (was_overwritten(b, i - 1)) return; // the parameters are not those kept
+    uint32_t n = 0;
+    memset(to, 0, 16);
+    for (size_t i = 0; i < s->pieces && s->first + i < WORDS; i++)
+        for (uint32_t k = 0; k < s->piece[i].count && n < 16; k++) to[n++] = kept->parameters[s->first + i][k];
+}
+
+static void tally_transfer(struct tally *t, const struct before *kept, const struct step *steps, size_t i)
+{
+    const struct step *s = &steps[i];
+    uint8_t p[16];
+    if (was_overwritten(steps, i - 1)) return; // the parameters are not those kept
+    gather(&steps[i - 1], kept, p);
     uint32_t blocks = big_endian(p + 2, 2);
-    bool is_short = s->count < BLOCK * blocks;
+    bool is_short = s->sum < BLOCK * blocks;
     t->kinds[SHORT_READ] += s->command == 0x42 && is_short;
     t->kinds[SHORT_WRITE] += s->command == 0x41 && is_short;
     t->kinds[NOT_BEGUN] += s->command == 0x41 && s->blocks < blocks;
-    t->kinds[LONG_TRANSFER] += s->count > BLOCK * blocks;
+    t->kinds[LONG_TRANSFER] += s->sum > BLOCK * blocks;
     t->kinds[REPLICATED] += (p[0] & 0x0F) == 2 && p[1] > blocks;
     t->kinds[READ_ONLY_READ] += s->command == 0x42 && kept->record[33] != 0;
 }
 
-static void tally_step(struct tally *t, const struct buffers *b, const struct before *kept, size_t i)
+static bool has_overlap(const struct step *s)
 {
-    struct step s = step_at(b, i);
-    t->reached++;
-    if (s.cause != 0) {
-        if (s.cause < CAUSES) t->causes[s.cause]++;
-        t->kinds[SENSE_KEPT] += s.cause < 20 && b->at[RECORD][0] != 0;
-        t->kinds[EXTENT_LEFT] += s.cause >= 22 && s.cause <= 26 && s.count > 16; // these have read their parameters
-        t->kinds[LOCATE_LEFT] += s.cause >= 32 && s.cause <= 39 && s.count > 8;
+    for (size_t i = 0; i < s->reached; i++)
+        for (size_t k = 0; k < i; k++)
+            if (meets(&s->piece[k], &s->piece[i], s->piece[i].moved)) return true;
+    return false;
+}
+
+static bool crosses_blocks(const struct step *s)
+{
+    uint32_t from = 0;
+    for (size_t i = 0; i < s->reached; from += s->piece[i++].moved)
+        if (s->piece[i].moved > 0 && from % BLOCK != 0 && from / BLOCK != (from + s->piece[i].moved - 1) / BLOCK) return true;
+    return false;
+}
+
+// Of a refused command in pieces.
+static void tally_split_refusal(struct tally *t, const struct buffers *b, const struct step *s)
+{
+    const struct piece *p = &s->piece[0];
+    t->split_causes[s->cause % CAUSES]++;
+    t->kinds[SPREAD_EXTENT] += s->cause >= 22 && s->cause <= 26 && s->reached > 1;
+    t->kinds[SPREAD_LOCATE] += s->cause >= 32 && s->cause <= 39 && s->reached > 1;
+    t->kinds[LATER_10] += s->cause == 10 && (p->flags & 0x1F) == 0;
+    t->kinds[LATER_11] += s->cause == 11 && p->count > 0;
+    t->kinds[LATER_12] += s->cause == 12 && (size_t)p->address + p->count <= b->length[STORAGE];
+}
+
+// What the flags and command bytes of the later pieces are, of a command in pieces that is accepted.
+static void tally_later_words(struct tally *t, const struct buffers *b, const struct step *s)
+{
+    for (size_t i = 0; i < s->pieces; i++) {
+        const struct piece *p = &s->piece[i];
+        t->kinds[IDLE_40] += (p->flags & 0xC0) == 0xC0 && (s->flags & 0x40) == 0;
+        t->kinds[IDLE_20] += (p->flags & 0xA0) == 0xA0 && s->channel == 0x40;
+        t->kinds[OTHER_BYTE] += p->command != s->command;
+        t->kinds[BYTE_13] += p->command % 8 == 0;
+        t->kinds[NOP_OUTSIDE] += s->command == 0x03 && i > 0 && (size_t)p->address + p->count > b->length[STORAGE];
+    }
+}
+
+// Of an accepted command in pieces; `last` if the chain ended with it.
+static void tally_split(struct tally *t, const struct buffers *b, const struct step *s, bool last)
+{
+    bool unreached = s->reached < s->pieces && s->command != 0x03;
+    t->split_accepted[s->command]++;
+    t->kinds[NOT_REACHED] += unreached;
+    t->kinds[UNREACHED_SUPPRESSES] += unreached && s->channel == 0;
+    t->kinds[UNREACHED_DOES_NOT] += unreached && s->channel == 0x40;
+    t->kinds[DENSE] += unreached && !last;
+    t->kinds[LAST_RESIDUAL] += s->reached > 1 && s->residual > 0;
+    t->kinds[GATHERED_EXTENT] += s->command == 0x63 && s->reached > 1;
+    t->kinds[GATHERED_LOCATE] += s->command == 0x43 && s->reached > 1;
+    t->kinds[OVERLAP] += s->command == 0x42 && has_overlap(s);
+    t->kinds[ACROSS_BLOCKS] += (s->command == 0x41 || s->command == 0x42) && crosses_blocks(s);
+    t->kinds[SUM_65535] += s->sum > 65535 && s->command != 0x03;
+    t->kinds[SUM_131072] += s->sum > 131072 && s->command != 0x03;
+    t->kinds[MOVED_65535] += s->moved > 65535;
+    t->kinds[MOVED_131072] += s->moved > 131072;
+    t->kinds[SIXTEEN_PIECES] += s->reached >= 16;
+    tally_later_words(t, b, s);
+}
+
+static void tally_refusal(struct tally *t, const struct buffers *b, const struct step *s)
+{
+    if (s->cause < CAUSES) t->causes[s->cause]++;
+    t->kinds[SENSE_KEPT] += s->cause < 20 && b->at[RECORD][0] != 0;
+    t->kinds[EXTENT_LEFT] += s->cause >= 22 && s->cause <= 26 && s->sum > 16; // these have read their parameters
+    t->kinds[LOCATE_LEFT] += s->cause >= 32 && s->cause <= 39 && s->sum > 8;
+    if (s->pieces > 1) tally_split_refusal(t, b, s);
+}
+
+static void tally_step(struct tally *t, const struct buffers *b, const struct before *kept, const struct step *steps, size_t i, bool last)
+{
+    const struct step *s = &steps[i];
+    uint8_t p[16];
+    t->reached += s->reached;
+    if (s->cause != 0) {
+        tally_refusal(t, b, s);
         return;
     }
-    t->accepted[s.command]++;
-    t->kinds[INCORRECT_LENGTH] += s.channel == 0x40;
-    t->kinds[SECOND_IPL] += s.command == 0x02 && i > 0;
-    t->kinds[SENSE_NOT_READY] += s.command == 0x04 && kept->record[32] == 0;
-    t->kinds[MODIFIER_3] += s.command == 0x43 && (kept->parameters[i][0] & 0x10) != 0 && !was_overwritten(b, i);
-    t->kinds[OVERWRITTEN] += s.command == 0x43 && was_overwritten(b, i);
-    t->kinds[ALL_WORDS] += i == 31;
-    if (s.command == 0x41 || s.command == 0x42) tally_transfer(t, b, kept, i, &s);
+    gather(s, kept, p);
+    t->accepted[s->command]++;
+    t->kinds[INCORRECT_LENGTH] += s->channel == 0x40;
+    t->kinds[SECOND_IPL] += s->command == 0x02 && i > 0;
+    t->kinds[SENSE_NOT_READY] += s->command == 0x04 && kept->record[32] == 0;
+    t->kinds[MODIFIER_3] += s->command == 0x43 && (p[0] & 0x10) != 0 && !was_overwritten(steps, i);
+    t->kinds[OVERWRITTEN] += s->command == 0x43 && was_overwritten(steps, i);
+    if (s->command == 0x41 || s->command == 0x42) tally_transfer(t, kept, steps, i);
+    if (s->pieces > 1) tally_split(t, b, s, last);
 }
 
 static void tally_run(struct tally *t, const struct buffers *b, const struct before *kept, uint32_t result)
 {
+    static struct step steps[WORDS];
+    size_t n = 0, word = 0, place = 0;
     if (result >= 256) {
         t->causes[result / 256 % CAUSES]++;
+        t->kinds[SLICE_ENDS_80] += result == 0x500 && (b->at[CHAIN][b->length[CHAIN] - 4] & 0xC0) == 0x80;
         return;
     }
-    for (size_t i = 0; i < result; i++) tally_step(t, b, kept, i);
+    for (; place < result; n++) {
+        steps[n] = step_at(b, word, place);
+        word += steps[n].pieces;
+        place += steps[n].reached;
+        tally_step(t, b, kept, steps, n, place == result);
+    }
+    t->kinds[ALL_WORDS] += result == WORDS;
     const uint8_t *was = kept->record, *is = b->at[RECORD];
     t->kinds[FULL_READ] += big_endian(was + 24, 3) < 0xFFFFFF && big_endian(is + 24, 3) == 0xFFFFFF;
     t->kinds[FULL_CHECKED] += big_endian(was + 27, 3) < 0xFFFFFF && big_endian(is + 27, 3) == 0xFFFFFF;
@@ -150,7 +287,7 @@ static bool agree(struct random *r, struct tally *t, uint32_t large)
     }
     if (result != wanted) printf("  result %lu, not %lu\n", (unsigned long)result, (unsigned long)wanted);
     print_input(&twin, kept.record);
-    for (size_t i = 0; i < 32 && 8 * i + 8 <= twin.length[CHAIN]; i++) {
+    for (size_t i = 0; i < WORDS && 8 * i + 8 <= twin.length[CHAIN]; i++) {
         printf("  storage before, at word %zu's address:", i + 1);
         for (int k = 0; k < 16; k++) printf(" %02X", kept.parameters[i][k]);
         printf("\n");
@@ -164,22 +301,23 @@ static bool print_line(const char *what, const char *name, unsigned long times)
     return times > 0;
 }
 
-static bool print_causes(const struct tally *t)
+// The causes from `least` on.
+static bool print_causes(const char *what, const unsigned long times[CAUSES], uint8_t least)
 {
     bool all = true;
     for (size_t i = 0; i < sizeof expected_causes; i++) {
         char name[8];
         snprintf(name, sizeof name, "%d", expected_causes[i]);
-        all = print_line("cause", name, t->causes[expected_causes[i]]) && all;
+        if (expected_causes[i] >= least) all = print_line(what, name, times[expected_causes[i]]) && all;
     }
     return all;
 }
 
-static bool print_commands(const struct tally *t)
+static bool print_commands(const char *what, const unsigned long times[256])
 {
     bool all = true;
     for (size_t i = 0; i < sizeof commands / sizeof *commands; i++)
-        all = print_line("accepted", commands[i].name, t->accepted[commands[i].command]) && all;
+        all = print_line(what, commands[i].name, times[commands[i].command]) && all;
     return all;
 }
 
@@ -207,7 +345,9 @@ void test_random(uint32_t chains, uint64_t seed)
     }
     printf("chains: %lu, commands reached: %lu\n", (unsigned long)i, t.reached);
     if (!same || chains == 0) return;
-    check("random", "every cause was met", print_causes(&t));
-    check("random", "every command was accepted", print_commands(&t));
+    check("random", "every cause was met", print_causes("cause", t.causes, 1));
+    check("random", "every command was accepted", print_commands("accepted", t.accepted));
+    check("random", "every cause was met in pieces", print_causes("in pieces, cause", t.split_causes, 10));
+    check("random", "every command was accepted in pieces", print_commands("in pieces, accepted", t.split_accepted));
     check("random", "every kind was met", print_kinds(&t));
 }

@@ -56,7 +56,7 @@ struct line {
     const char *storage;             // before
     struct change store_before[1];   // over the fill
     const char *chain;
-    const char *answers;             // of the commands reached, which gives the result; the rest stays
+    const char *answers;             // of the pieces reached, which gives the result; the rest stays
     const char *sense;               // after, zeros follow; NULL: all zero
     const char *log;                 // the eight bytes of counts after; NULL: all zero
     struct change storage_after[3], store_after[2]; // all else stays
@@ -82,6 +82,7 @@ void generate_large_contents(struct random *r);
 // ---- The parts.
 void test_lines(void);
 void test_causes(void);
+void test_pieces(void);
 void test_calls(void);
 void test_random(uint32_t chains, uint64_t seed);
 void test_bounds(uint64_t seed);

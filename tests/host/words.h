@@ -15,6 +15,7 @@
 
 // Answers: unit status, channel status, residual, cause, zero, blocks moved.
 #define DONE "0C 00 0000 00 00 0000 "
+#define USED "00 00 0000 00 00 0000 " // a piece that is used up, and not the last one reached
 #define NOP_DONE "0C 00 0001 00 00 0000 "
 #define MOVED(blocks) "0C 00 0000 00 00 " blocks " "
 #define REFUSED(residual, cause) "0E 00 " residual " " cause " 00 0000 "

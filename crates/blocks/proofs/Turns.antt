@@ -1,84 +1,120 @@
 -- One block more, of a READ and of a WRITE. No contract cites this file.
---     Share        the share of block i in n bytes: k of them, after the first `from`
---     next-share   where the next one's begins
---     next-within  where bytes are left, the next is one of the blocks
---     one-of       it lies in the store, as all of them do
---     read-turn    its bytes are delivered after those of the blocks before it
---     filled       its bytes, and then zeros
---     store-turn   it is stored after the blocks before it
-use Prim.Native.Nat.{ℕ, _+_, _-_, _*_, _≤_, _<_, min}
-use mathlib.Core.Path.{_≡_, sym, ap, _∙_}
-use mathlib.Core.List.{List, _++_}
-use lib.ListN.{length, take}
-use lib.Seq.{length-take-le, take-all}
+--     area-of      a data area that has n bytes has fewer
+--     one-of       a block lies in the store, as all of them do
+--     next-within  where bytes are left, the next block is one of them
+--     read-turn, read-end
+--                  a block's bytes are delivered, and the others' then; the last one's
+--     filled       a block's bytes, and then zeros
+--     store-turn   a block is stored, and the others then
+use Prim.Native.Nat.{ℕ, suc, _+_, _-_, _*_, _≤_, _<_, min}
+use mathlib.Core.Path.{_≡_, refl, sym, ap, _∙_}
+use mathlib.Core.List.{List, _++_, append-nil}
+use lib.ListN.{length, take, drop}
+use lib.Seq.{length-take-le, take-all, take-length, take-append-le, take-append-add}
 use native.Mathlib.Nat.{mul-le-mul-left, mul-le-mul-right}
 use native.Mathlib.Decide.{decLe}
 use native.Mathlib.Omega.{arith}
 use borrow.Rule.Slice.PartMut.{midOf, putMid}
 use Rattle.slices.specs.Parts.{zeros, put, pad}
-use Rattle.slices.proofs.Laws.{length-part, pad-cleared}
-use Rattle.model.specs.declared.ccw.Ccw.{Ccw}
+use Rattle.slices.proofs.Laws.{length-part, drop-take, pad-min, pad-cleared}
+use Rattle.model.specs.declared.decoded.Area.{Area}
 use Rattle.model.specs.declared.device.Device.{Device}
-use Rattle.model.specs.Lent.{fetched, delivered, blockStart, blockAt, blocksFrom, blocksInto}
+use Rattle.model.specs.Lent.{blockStart, blockAt, blocksFrom, blocksInto}
+use Rattle.model.specs.Pieces.{bytesIn, scattered}
+use Rattle.model.specs.Decoded.{areaOf}
 use Rattle.model.specs.Safe.{InArea}
-use Rattle.model.proofs.Blocks.{blocks-from-part, take-blocks-more, blocks-into-last}
-use Rattle.storage.specs.Area.{fetchedFrom, deliveredFrom}
-use Rattle.storage.proofs.Laws.{fetched-part, delivered-more, fetched-block}
+use Rattle.storage.specs.Area.{Rest}
+use Rattle.storage.proofs.Laws.{scattered-none, bytes-beyond, scattered-beyond, length-taken}
 use Rattle.blocks.specs.Places.{InStore}
 
-pub record Share (size n i from k : ℕ) : Type 0 where
-  pub after : from ≡ min (i * size) n
-  pub bytes : k ≡ min size (n - from)
-
-pub next-share : (size n i from k : ℕ) → Share size n i from k → from + k ≡ min ((i + 1) * size) n
-next-share size n i from k t =
-    let e : (i + 1) * size ≡ i * size + size = omega arith in
-    rw e (sum (i * size) size n from k (t .after) (t .bytes))
-  where
-    sum : (a size n from k : ℕ) → from ≡ min a n → k ≡ min size (n - from) → from + k ≡ min (a + size) n
-    sum a size n from k e f = omega (arith, e, f)
-
--- where bytes are left after block i, the next is whole, and one of the blocks
-pub next-within : (size n i from k blocks : ℕ) → from ≡ i * size → k ≡ min size (n - from) → from + k < n → n ≤ blocks * size → (from + k ≡ (i + 1) * size) × (i + 1 < blocks)
-next-within size n i from k blocks e f h m =
-    let s : (i + 1) * size ≡ i * size + size = omega arith in
-    let here : from + k ≡ (i + 1) * size = rw s (omega (arith, e, f, h)) in (
-      here,
-      elim (decLe blocks (i + 1)) [
-        | yes g ↦ absurd (omega (arith, here, h, m, mul-le-mul-right size g))
-        | no g ↦ omega (arith, g)
-      ],
-    )
+pub area-of : {chain : List ℕ} {a : Area} {main : List ℕ} {n : ℕ} (k : ℕ) → InArea chain a main n → k ≤ n → InArea chain a main k
+area-of k h l = record { ccws = h .ccws; inside = h .inside; left = omega (arith, h .left, l) }
 
 -- a block lies in the store, whose bytes are more than its number
-pub one-of : {dev : Device} {store now : List ℕ} {block blocks i : ℕ} → InStore dev store block blocks → i < blocks → length now ≡ length store → InStore dev now (block + i) 1 × (block + i < length now)
-one-of {dev} {store} {now} {block} {blocks} {i} s h e =
-    let g : block + i + 1 ≤ block + blocks = omega (arith, h) in
-    let r : (block + i + 1) * dev .block ≤ length now = omega (arith, e, s .inside, mul-le-mul-right (dev .block) g) in
-    (record { device = s .device; some = omega arith; inside = r }, omega (arith, r, mul-le-mul-left (block + i + 1) (s .device .some-size)))
+pub one-of : {dev : Device} {store now : List ℕ} {block blocks here : ℕ} → InStore dev store block blocks → here < block + blocks → length now ≡ length store → InStore dev now here 1 × (here < length now)
+one-of {dev} {store} {now} {block} {blocks} {here} s h e =
+    let up : here + 1 ≤ block + blocks = omega (arith, h) in
+    let r : (here + 1) * dev .block ≤ length now = omega (arith, e, s .inside, mul-le-mul-right (dev .block) up) in
+    (record { device = s .device; some = omega arith; inside = r }, omega (arith, r, mul-le-mul-left (here + 1) (s .device .some-size)))
 
-module _ (dev : Device) (c : Ccw) (main store : List ℕ) (block : ℕ) where
-  -- `now` is main storage before block i, `after` behind it
-  pub read-turn : (blocks n i from k : ℕ) {now after : List ℕ} → from ≡ i * dev .block → k ≡ min (dev .block) (n - from) → from ≤ n → n ≤ blocks * dev .block
-      → InStore dev store block blocks → InArea c main 0 n
-      → now ≡ delivered c main (take from (blocksFrom dev store block blocks)) → after ≡ deliveredFrom c now from (take k (blockAt dev store (block + i)))
-      → after ≡ delivered c main (take (from + k) (blocksFrom dev store block blocks))
-  read-turn blocks n i from k here bytes l m r a before moved =
-      let small : k ≤ dev .block = omega (arith, bytes) in
-      let fits : from + k ≤ n = omega (arith, bytes, l) in
-      let held : from ≤ length (blocksFrom dev store block blocks) = rw (blocks-from-part dev store block blocks, length-part store (block * dev .block) (blocks * dev .block) (omega (arith, r .inside))) (omega (arith, fits, m)) in
-      let sum : take (from + k) (blocksFrom dev store block blocks) ≡ take from (blocksFrom dev store block blocks) ++ take k (blockAt dev store (block + i))
-      = rw here (take-blocks-more dev store block blocks i k small (omega (arith, here, fits, m))) in
-      rw before at moved ∙ delivered-more c main _ _ from (sym (length-take-le from _ held)) (omega (arith, a .inside, l)) ∙ sym (ap (delivered c main) sum)
+block-length : (dev : Device) (store : List ℕ) (block : ℕ) → InStore dev store block 1 → length (blockAt dev store block) ≡ dev .block
+unfolding blockAt blockStart
+block-length dev store block s = length-part store (block * dev .block) (dev .block) (omega (arith, s .inside))
 
-  pub store-turn : (n i from k : ℕ) (s : List ℕ) → Share (dev .block) n i from k → s ≡ blocksInto dev store block i (fetched c main n)
-      → put s (blockStart dev (block + i)) (pad (dev .block) (fetchedFrom c main from k)) ≡ blocksInto dev store block (i + 1) (fetched c main n)
-  store-turn n i from k s t e = rw (e, fetched-block c main (dev .block) n i from k (t .after) (t .bytes)) (sym (blocks-into-last dev store block i (fetched c main n)))
+-- where bytes are left behind a block, it was whole, and another follows it
+pub next-within : (size left k blocks : ℕ) → k ≡ min size left → left ≤ blocks * size → (left - k ≡ 0 → ⊥) → (left - k ≤ (blocks - 1) * size) × (1 < blocks)
+next-within size left k blocks e m h =
+    let whole : k ≡ size = omega (arith, e, h) in
+    elim (decLe 2 blocks) [
+      | yes g ↦
+          let t : blocks ≡ blocks - 1 + 1 = omega (arith, g) in
+          let s : blocks * size ≡ (blocks - 1) * size + size = ap (λ (n : ℕ). n * size) t ∙ omega arith in
+          (omega (arith, whole, m, s), omega (arith, g))
+      | no g ↦
+          let one : blocks * size ≤ 1 * size = mul-le-mul-right size (omega (arith, g)) in
+          absurd (h (omega (arith, whole, m, one)))
+    ]
+
+-- k bytes of n are in the first of two lists
+take-both : (xs ys : List ℕ) (n k : ℕ) → k ≡ min (length xs) n → take n (xs ++ ys) ≡ take k xs ++ take (n - k) ys
+take-both xs ys n k e = elim (decLe n (length xs)) [
+  | yes h ↦
+      let all : k ≡ n = omega (arith, e, h) in
+      let none : n - n ≡ 0 = omega arith in
+      rw (all, none) (take-append-le n xs ys h ∙ sym (append-nil (take n xs)))
+  | no h ↦
+      let whole : k ≡ length xs = omega (arith, e, h) in
+      let sum : n ≡ length xs + (n - length xs) = omega (arith, h) in
+      rw (whole, take-length xs) (ap (λ (m : ℕ). take m (xs ++ ys)) sum ∙ take-append-add xs ys (n - length xs))
+]
+
+-- where n bytes end in a block of k, none is behind it
+behind : (size n k : ℕ) (l : List ℕ) → k ≡ min size n → take (n - k) (drop k l) ≡ take (n - size) (drop size l)
+behind size n k l e = elim (decLe size n) [
+  | yes h ↦ let whole : k ≡ size = omega (arith, e, h) in rw whole refl
+  | no h ↦
+      let none : n - k ≡ 0 = omega (arith, e, h) in
+      let none-left : n - size ≡ 0 = omega (arith, h) in
+      rw (none, none-left) refl
+]
+
+-- `left` bytes are still to be moved, of so many blocks, this one first; `a` is left of the data area, and `r` behind the block
+module _ (dev : Device) (chain : List ℕ) (a r : Area) (here blocks left k : ℕ) (rest : Rest chain a k r) (bytes : k ≡ min (dev .block) left) (some : 1 ≤ blocks) where
+  -- `now` is main storage before the block, `after` behind it
+  module _ (store now after : List ℕ) (moved : after ≡ scattered (areaOf chain a) now (take k (blockAt dev store here))) (h : InArea chain a now left) (s : InStore dev store here 1) where
+    pub read-turn : scattered (areaOf chain r) after (take (left - k) (blocksFrom dev store (here + 1) (blocks - 1))) ≡ scattered (areaOf chain a) now (take left (blocksFrom dev store here blocks))
+    unfolding blocksFrom
+    read-turn =
+        let one : List ℕ = blockAt dev store here in
+        let others : List ℕ = blocksFrom dev store (here + 1) (blocks - 1) in
+        let more : blocks ≡ suc (blocks - 1) = omega (arith, some) in
+        let long : length one ≡ dev .block = block-length dev store here s in
+        let short : k ≡ length (take k one) = sym (length-take-le k one (omega (arith, bytes, long))) in
+        let both : take left (one ++ others) ≡ take k one ++ take (left - k) others = take-both one others left k (rw long bytes) in
+        let all : blocksFrom dev store here blocks ≡ one ++ others = ap (blocksFrom dev store here) more in
+        rw (all, rest .pieces, both, moved) (sym (scattered-beyond (areaOf chain a) now k (take k one) _ short (h .inside)))
+
+    pub read-end : left - k ≡ 0 → after ≡ scattered (areaOf chain a) now (take left (blocksFrom dev store here blocks))
+    read-end none = sym (scattered-none (areaOf chain r) after) ∙ rw none at read-turn
+
+  -- `now` is the store before the block, `after` behind it
+  pub store-turn : (main now after : List ℕ) → after ≡ put now (blockStart dev here) (pad (dev .block) (take k (bytesIn (areaOf chain a) main))) → InArea chain a main left
+      → blocksInto dev after (here + 1) (blocks - 1) (take (left - k) (bytesIn (areaOf chain r) main)) ≡ blocksInto dev now here blocks (take left (bytesIn (areaOf chain a) main))
+  unfolding blocksInto
+  store-turn main now after stored h =
+      let all : List ℕ = bytesIn (areaOf chain a) main in
+      let more : blocks ≡ suc (blocks - 1) = omega (arith, some) in
+      let behind-it : bytesIn (areaOf chain r) main ≡ drop k all = rw (rest .pieces) (bytes-beyond (areaOf chain a) main k (h .inside)) in
+      let filled-by : pad (dev .block) (take k all) ≡ pad (dev .block) (take left all) = rw bytes (pad-min (dev .block) left all) in
+      let others : take (left - k) (drop k all) ≡ drop (dev .block) (take left all) = behind (dev .block) left k all bytes ∙ sym (drop-take (dev .block) left all) in
+      let whole : blocksInto dev now here blocks (take left all) ≡ blocksInto dev (put now (blockStart dev here) (pad (dev .block) (take left all))) (here + 1) (blocks - 1) (drop (dev .block) (take left all))
+      = ap (λ (n : ℕ). blocksInto dev now here n (take left all)) more in
+      rw (whole, behind-it, stored, filled-by, others) refl
 
 -- a block that bytes were fetched into, `b`, and whose rest was cleared and came `back`
-pub filled : (c : Ccw) (main d b back : List ℕ) (from n : ℕ) → b ≡ put d 0 (fetchedFrom c main from n) → back ≡ zeros (length (midOf n (length b - n) b))
-    → InArea c main from n → n ≤ length d → putMid n (length b - n) b back ≡ pad (length d) (fetchedFrom c main from n)
-filled c main d b back from n e f h g =
-    let l : List ℕ = fetchedFrom c main from n in
-    let long : length l ≡ n = ap length (fetched-part c main from n) ∙ length-part main (c .address + from) n (omega (arith, h .inside)) in
+pub filled : (chain : List ℕ) (a : Area) (main d b back : List ℕ) (n : ℕ) → b ≡ put d 0 (take n (bytesIn (areaOf chain a) main)) → back ≡ zeros (length (midOf n (length b - n) b))
+    → InArea chain a main n → n ≤ length d → putMid n (length b - n) b back ≡ pad (length d) (take n (bytesIn (areaOf chain a) main))
+filled chain a main d b back n e f h g =
+    let l : List ℕ = take n (bytesIn (areaOf chain a) main) in
+    let long : length l ≡ n = length-taken (areaOf chain a) main n (h .inside) (h .left) in
     pad-cleared d l b back n (omega (arith, long)) (e ∙ ap (put d 0) (sym (take-all n l (omega (arith, long))))) f

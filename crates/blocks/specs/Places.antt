@@ -1,11 +1,11 @@
 -- What the functions that move blocks ask for.
 --     InStore   so many blocks from one on, one at least, lie in the store of a device that may be used
---     Movable   n bytes can move between such blocks and a data area, from a place in it on
+--     Movable   n bytes can move between such blocks and the front of a data area
 -- Assumes nothing.
 use Prim.Native.Nat.{ℕ, _+_, _*_, _≤_}
 use mathlib.Core.List.{List}
 use lib.ListN.{length}
-use Rattle.model.specs.declared.ccw.Ccw.{Ccw}
+use Rattle.model.specs.declared.decoded.Area.{Area}
 use Rattle.model.specs.declared.device.Device.{Device}
 use Rattle.model.specs.Safe.{Usable, InArea}
 
@@ -14,7 +14,7 @@ pub record InStore (dev : Device) (store : List ℕ) (block blocks : ℕ) : Type
   pub some : 1 ≤ blocks
   pub inside : (block + blocks) * dev .block ≤ length store
 
-pub record Movable (dev : Device) (store : List ℕ) (block blocks : ℕ) (c : Ccw) (main : List ℕ) (from n : ℕ) : Type 0 where
+pub record Movable (dev : Device) (store : List ℕ) (block blocks : ℕ) (chain : List ℕ) (a : Area) (main : List ℕ) (n : ℕ) : Type 0 where
   pub stored : InStore dev store block blocks
   pub bytes : n ≤ blocks * dev .block
-  pub area : InArea c main from n
+  pub area : InArea chain a main n

@@ -1,6 +1,6 @@
 // The blocks of a device: where one lies, one read and one stored, and the blocks of a READ and of a WRITE, one after another.
 // Nothing here is refused: a caller proves that the blocks are in the store, and the bytes in the data area.
-use model::ccw::Ccw;
+use model::decoded::Area;
 use model::device::Device;
 use slices::clear;
 use slices::least;
@@ -10,10 +10,12 @@ ghost use mathlib.Core.Path.{_≡_};
 ghost use Prim.Native.Nat.{_+_, _≤_};
 ghost use lib.ListN.{length, take};
 ghost use Rattle.slices.specs.Parts.{put, pad};
-ghost use Rattle.model.specs.Lent.{fetched, delivered, blockCount, blockStart, blockAt, blocksFrom, blocksInto};
+ghost use Rattle.model.specs.Lent.{blockCount, blockStart, blockAt, blocksFrom, blocksInto};
+ghost use Rattle.model.specs.Pieces.{bytesIn, scattered};
+ghost use Rattle.model.specs.Decoded.{areaOf};
 ghost use Rattle.model.specs.Commands.{begun};
 ghost use Rattle.model.specs.Safe.{Usable, InArea};
-ghost use Rattle.storage.specs.Area.{fetchedFrom, deliveredFrom};
+ghost use Rattle.storage.specs.Area.{Rest};
 ghost use Rattle.blocks.specs.Places.{InStore, Movable};
 
 // The blocks of a device.
@@ -26,7 +28,7 @@ pub fn block_count(d: Device, store: &[u8]) -> usize
 
 // The blocks that n bytes begin.
 pub fn begun(d: Device, n: usize) -> usize
-    requires { ⌜ Usable d × (n ≤ 65535) ⌝ }
+    requires { ⌜ Usable d × (n ≤ 2097120) ⌝ }
     ensures { λ r. ⌜ r ≡ begun d n ⌝ }
 {
     (n + (d.block - 1)) / d.block
@@ -50,24 +52,35 @@ fn place(d: Device, store: &[u8], block: usize) -> Span
     }
 }
 
-// The first n bytes of a block go to the data area, from a place on.
-fn read_block(d: Device, store: &[u8], block: usize, c: Ccw, main: &mut [u8], from: usize, n: usize)
-    requires { ⌜ Movable d (now store) block 1 c (now main) from n ⌝ }
-    ensures { λ _. ⌜ now (main .exit) ≡ deliveredFrom c (now (main .entry)) from (take n (blockAt d (now (store .entry)) block)) ⌝ }
+// The first n bytes of a block go to the front of the data area.
+fn read_block(
+    d: Device,
+    store: &[u8],
+    block: usize,
+    chain: &[u8],
+    a: Area,
+    main: &mut [u8],
+    n: usize,
+) -> Area
+    requires { ⌜ Movable d (now store) block 1 (now chain) a (now main) n ⌝ }
+    ensures moved { λ _. ⌜ now (main .exit) ≡ scattered (areaOf (now (chain .entry)) a) (now (main .entry)) (take n (blockAt d (now (store .entry)) block)) ⌝ }
+    ensures rest { λ r. ⌜ Rest (now (chain .entry)) a n r ⌝ }
 {
     let span = place(d, store, block);
     let start = span.start;
     let end = span.end;
-    deliver(c, main, from, &store[start..end], n);
+    deliver(chain, a, main, &store[start..end], n)
 }
 
-// n bytes of the data area, from a place on, and then zeros fill a block.
-fn fill(block: &mut [u8], c: Ccw, main: &[u8], from: usize, n: usize)
-    requires { ⌜ (n ≤ length (now block)) × (n ≤ 65535) × InArea c (now main) from n ⌝ }
-    ensures { λ _. ⌜ now (block .exit) ≡ pad (length (now (block .entry))) (fetchedFrom c (now (main .entry)) from n) ⌝ }
+// The next n bytes of the data area, and then zeros, fill a block.
+fn fill(block: &mut [u8], chain: &[u8], a: Area, main: &[u8], n: usize) -> Area
+    requires { ⌜ (n ≤ length (now block)) × InArea (now chain) a (now main) n ⌝ }
+    ensures filled { λ _. ⌜ now (block .exit) ≡ pad (length (now (block .entry))) (take n (bytesIn (areaOf (now (chain .entry)) a) (now (main .entry)))) ⌝ }
+    ensures rest { λ r. ⌜ Rest (now (chain .entry)) a n r ⌝ }
 {
-    fetch(c, main, from, block, n);
+    let rest = fetch(chain, a, main, block, n);
     clear(&mut block[n..]);
+    rest
 }
 
 // The block is lent on as its own part of the store.
@@ -75,18 +88,19 @@ fn store_block(
     d: Device,
     store: &mut [u8],
     block: usize,
-    c: Ccw,
+    chain: &[u8],
+    a: Area,
     main: &[u8],
-    from: usize,
     n: usize,
-)
-    requires { ⌜ Movable d (now store) block 1 c (now main) from n ⌝ }
-    ensures { λ _. ⌜ now (store .exit) ≡ put (now (store .entry)) (blockStart d block) (pad (d .block) (fetchedFrom c (now (main .entry)) from n)) ⌝ }
+) -> Area
+    requires { ⌜ Movable d (now store) block 1 (now chain) a (now main) n ⌝ }
+    ensures stored { λ _. ⌜ now (store .exit) ≡ put (now (store .entry)) (blockStart d block) (pad (d .block) (take n (bytesIn (areaOf (now (chain .entry)) a) (now (main .entry))))) ⌝ }
+    ensures rest { λ r. ⌜ Rest (now (chain .entry)) a n r ⌝ }
 {
     let span = place(d, store, block);
     let start = span.start;
     let end = span.end;
-    fill(&mut store[start..end], c, main, from, n);
+    fill(&mut store[start..end], chain, a, main, n)
 }
 
 // n bytes of these blocks go to the data area, block by block.
@@ -95,21 +109,23 @@ pub fn read_blocks(
     store: &[u8],
     block: usize,
     blocks: usize,
-    c: Ccw,
+    chain: &[u8],
+    a: Area,
     main: &mut [u8],
     n: usize,
 )
-    requires { ⌜ Movable d (now store) block blocks c (now main) 0 n ⌝ }
-    ensures { λ _. ⌜ now (main .exit) ≡ delivered c (now (main .entry)) (take n (blocksFrom d (now (store .entry)) block blocks)) ⌝ }
+    requires { ⌜ Movable d (now store) block blocks (now chain) a (now main) n ⌝ }
+    ensures { λ _. ⌜ now (main .exit) ≡ scattered (areaOf (now (chain .entry)) a) (now (main .entry)) (take n (blocksFrom d (now (store .entry)) block blocks)) ⌝ }
 {
-    let mut i = 0;
-    let mut from = 0;
+    let mut area = a;
+    let mut here = block;
+    let mut left = n;
     loop {
-        let k = least(d.block, n - from);
-        read_block(d, store, block + i, c, main, from, k);
-        i += 1;
-        from += k;
-        if n <= from {
+        let k = least(d.block, left);
+        area = read_block(d, store, here, chain, area, main, k);
+        here += 1;
+        left -= k;
+        if left == 0 {
             return;
         }
     }
@@ -121,17 +137,25 @@ pub fn store_blocks(
     store: &mut [u8],
     block: usize,
     blocks: usize,
-    c: Ccw,
+    chain: &[u8],
+    a: Area,
     main: &[u8],
     n: usize,
 )
-    requires { ⌜ Movable d (now store) block blocks c (now main) 0 n ⌝ }
-    ensures { λ _. ⌜ now (store .exit) ≡ blocksInto d (now (store .entry)) block blocks (fetched c (now (main .entry)) n) ⌝ }
+    requires { ⌜ Movable d (now store) block blocks (now chain) a (now main) n ⌝ }
+    ensures { λ _. ⌜ now (store .exit) ≡ blocksInto d (now (store .entry)) block blocks (take n (bytesIn (areaOf (now (chain .entry)) a) (now (main .entry)))) ⌝ }
 {
-    let mut from = 0;
-    for i in 0..blocks {
-        let k = least(d.block, n - from);
-        store_block(d, store, block + i, c, main, from, k);
-        from += k;
+    let end = block + blocks;
+    let mut area = a;
+    let mut here = block;
+    let mut left = n;
+    loop {
+        let k = least(d.block, left);
+        area = store_block(d, store, here, chain, area, main, k);
+        left -= k;
+        here += 1;
+        if here == end {
+            return;
+        }
     }
 }

@@ -1,42 +1,47 @@
 -- Laws of `run`, and of what is left beside it: done, one more command, and the command that ends it. No contract cites this file.
 --     Underway                     what holds between two turns of the loop; it begins so, goes on so, and ends in the run
---     put-words, put-marked        an answer is put
+--     begins-command               the command that a CCW begins, and the commands behind it
 --     left-known                   `Leaves` says all of what a command leaves
 --     turned                       one turn of the code is `next`, its answer to "go on" is `more`, and it leaves what the command does
 --     sound-same, callable-sound   the device and the state of a run
 --     allowed                      a run that no cause refuses is the call
-use Prim.Native.Nat.{ℕ, suc, _+_, _-_, _*_, _/_, _≤_, _<_}
+use Prim.Native.Nat.{ℕ, zero, suc, _+_, _-_, _*_, _≤_, _<_}
 use mathlib.Core.Path.{_≡_, refl, sym, ap, _∙_}
 use mathlib.Core.Bool.{Bool, true, false, not, _&&_}
 use mathlib.Core.List.{List, [], _∷_, _++_}
-use lib.ListN.{length, take, set}
+use lib.ListN.{length, getD, drop, length-drop}
+use lib.Seq.{drop-nil}
 use native.Mathlib.Nat.{sub-zero}
+use native.Mathlib.Numerals.{add-one}
 use native.Mathlib.Omega.{arith}
 use borrow.Author.Tests.{eqb-true, eqb-false}
+use Rattle.numbers.specs.Bits.{bit}
 use Rattle.numbers.specs.Choice.{_=?_, pick, oneOf}
 use Rattle.numbers.proofs.Choice.{pick-true, pick-false}
 use Rattle.numbers.proofs.Joined.{both-true}
-use Rattle.numbers.specs.Big.{bytes4}
-use Rattle.slices.specs.Parts.{put}
-use Rattle.slices.proofs.Laws.{put-more, put-second}
-use Rattle.model.specs.declared.ccw.Ccw.{Ccw}
+use Rattle.slices.specs.Parts.{zeros, put}
+use Rattle.model.specs.declared.decoded.Decoded.{Decoded}
 use Rattle.model.specs.declared.device.Device.{Device}
-use Rattle.model.specs.declared.kind.Kind.the-variants.{Accepted}
+use Rattle.model.specs.declared.kind.Kind.{Kind}
 use Rattle.model.specs.declared.record.Record.{Record}
 use Rattle.model.specs.State.{Done}
 use Rattle.model.specs.Log.{withCounts}
-use Rattle.model.specs.Names.{NO-OPERATION, chain-command, INCORRECT-LENGTH}
+use Rattle.model.specs.Names.{NO-OPERATION, chain-command}
 use Rattle.model.specs.Rules.{firstOf}
-use Rattle.model.specs.Lent.{ccwSize, ccwAt, flag, blockCount, fetched}
+use Rattle.model.specs.Lent.{flag, blockCount}
+use Rattle.model.specs.Pieces.{Command, commandsFrom, commandsIn, commandAt, final, fetched}
+use Rattle.model.specs.Decoded.{piecesFrom, commandOf, Decodes}
 use Rattle.model.specs.Parameters.{locateLength}
-use Rattle.model.specs.Causes.{callCauses, kindBy}
+use Rattle.model.specs.Causes.{callCauses, kindBy, kindOf}
 use Rattle.model.specs.Sense.{shown}
 use Rattle.model.specs.Commands.{Out, step}
-use Rattle.model.specs.Answer.{answerSize, answerOf, channelBy, channelStatus, wrongLength, goesOn}
+use Rattle.model.specs.Answer.{answerSize, residual, filled, answersOf, answered, channelBy, channelStatus, wrongLength, goesOn}
 use Rattle.model.specs.Chain.{System, stepAt, next, more, run, called}
-use Rattle.model.specs.Safe.{Usable, CcwFits, Safe}
+use Rattle.model.specs.Safe.{Usable, Safe}
+use Rattle.model.proofs.Leaving.{status-byte, channel-byte}
 use Rattle.model.proofs.Endings.{Callable}
 use Rattle.model.proofs.Fields.{verdict-small, step-blocks}
+use Rattle.model.proofs.Pieces.{ccwsIn, ccws-in, ccwsLeft, some-command}
 use Rattle.model.proofs.Refusals.{call-ran}
 use Rattle.model.proofs.Lengths.{Going, next-going, some-block}
 use Rattle.model.proofs.Safety.{safe-start}
@@ -47,11 +52,58 @@ use Rattle.unit_state.specs.declared.Running.{Running}
 use Rattle.log.specs.Counts.{counted}
 use Rattle.unit_state.specs.Standing.{started, unitOf, stateOf, stateLeft, Sound}
 use Rattle.unit_state.proofs.Units.{started-state, safe-any}
+use Rattle.endings.specs.declared.Answer.{Answer}
 use Rattle.endings.specs.declared.Ended.{Ended}
-use Rattle.endings.specs.Ending.{answerBytes, marked, wrongBy, Leaves, Ends}
+use Rattle.endings.specs.Ending.{answerWords, wrongBy, Leaves, Ends}
 use Rattle.endings.proofs.Answers.{answer-bytes}
-use Rattle.chain.specs.Walk.{carriedOf, leftOf, leftAt, leftFrom, systemOf, systemLeft, Turned, Walks, Allowed}
+use Rattle.answers.specs.Reached.{spreadOver, answersGiven}
+use Rattle.chain.specs.Walk.{carriedOf, leftOf, leftAt, leftFrom, systemOf, systemLeft, ccwsOf, Begins, Turned, Walks, Allowed}
+use Rattle.chain.specs.declared.run.Turn.{Turn}
 use Rattle.chain.specs.declared.run.Walked.{Walked}
+
+-- the commands of a chain, from one on
+
+drop-head : (cs : List Command) (i : ℕ) (d k : Command) (ks : List Command) → drop i cs ≡ k ∷ ks → (getD cs i d ≡ k) × (drop (suc i) cs ≡ ks)
+drop-head [] i d k ks e = absurd (omega (arith, ap length (sym (drop-nil i) ∙ e)))
+drop-head (c ∷ cs) zero d k ks e = (ap (λ (l : List Command). getD l 0 d) e, ap (drop 1) e)
+drop-head (c ∷ cs) (suc i) d k ks e = drop-head cs i d k ks e
+
+-- command i is the one that CCW `at` begins, and the next one begins behind it
+pub begins-command : (chain : List ℕ) (i at end : ℕ) (k : Command) → Begins chain i at → commandsFrom chain (ccwsOf chain - at) at ≡ k ∷ commandsFrom chain (ccwsOf chain - end) end
+    → (commandAt chain i ≡ k) × Begins chain (i + 1) end
+unfolding commandAt
+begins-command chain i at end k b e = rw (add-one i) (drop-head (commandsIn chain) i _ k _ (b ∙ e))
+
+begins-left : (chain : List ℕ) (i at : ℕ) → Begins chain i at → ccwsLeft chain i ≡ ccwsOf chain - at
+unfolding ccwsLeft
+begins-left chain i at b = ap ccwsIn b ∙ ccws-in chain (ccwsOf chain - at) at
+
+begins-some : (chain : List ℕ) (i at : ℕ) → Begins chain i at → at < ccwsOf chain → i < length (commandsIn chain)
+begins-some chain i at b h =
+    let some : 0 < length (commandsFrom chain (ccwsOf chain - at) at) = some-command (commandsFrom chain (ccwsOf chain - at) at) (omega (arith, h, ccws-in chain (ccwsOf chain - at) at)) in
+    let long : length (commandsIn chain) - i ≡ length (commandsFrom chain (ccwsOf chain - at) at) = sym (length-drop i (commandsIn chain)) ∙ ap length b in
+    omega (arith, some, long)
+
+begins-none : (chain : List ℕ) (i at : ℕ) → Begins chain i at → ccwsOf chain ≤ at → length (commandsIn chain) - i ≡ 0
+unfolding commandsFrom
+begins-none chain i at b h =
+    let none : ccwsOf chain - at ≡ 0 = omega arith in
+    sym (length-drop i (commandsIn chain)) ∙ ap length (rw none at b)
+
+pub length-pieces : (chain : List ℕ) (i n : ℕ) → length (piecesFrom chain i n) ≡ n
+unfolding piecesFrom
+length-pieces chain i zero = refl
+length-pieces chain i (suc n) = ap suc (length-pieces chain (i + 1) n)
+
+-- the CCWs from one on are those of the command that it begins, and those behind it
+pub command-ccws : (chain : List ℕ) (at : ℕ) (c : Decoded) → commandsFrom chain (ccwsOf chain - at) at ≡ commandOf chain c ∷ commandsFrom chain (ccwsOf chain - c .area .end) (c .area .end)
+    → c .area .end - c .area .next + 1 + (ccwsOf chain - c .area .end) ≡ ccwsOf chain - at
+unfolding ccwsIn
+command-ccws chain at c e =
+    let all = ccws-in chain (ccwsOf chain - at) at in
+    let behind = ccws-in chain (ccwsOf chain - c .area .end) (c .area .end) in
+    let own = length-pieces chain (c .area .next) (c .area .end - c .area .next) in
+    omega (arith, all, behind, own, ap ccwsIn e)
 
 module _ (dev : Device) (chain : List ℕ) where
   -- no command is left to do, and one is
@@ -91,82 +143,92 @@ module _ (dev : Device) (chain : List ℕ) where
     abbrev pub Given : System → Left → Type 0
     Given y l = (y ≡ run dev chain n 0 lent) × (l ≡ leftFrom dev chain n 0 s₀ lent)
 
-    pub given-walks : {w : Walked} {main store answers : List ℕ} → n ≡ length chain / ccwSize → Given (systemLeft u (w .left) main store answers (w .reached)) (w .left)
+    pub given-walks : {w : Walked} {main store answers : List ℕ} → n ≡ length (commandsIn chain) → Given (systemLeft u (w .left) main store answers (w .reached)) (w .left)
         → Walks dev chain u s₀ lent w main store answers
     given-walks e g = record { after = rw e at (g .0); left = rw e at (g .1) }
 
-    -- between two turns: the lengths are kept, the state is safe, and what is still to run from here gives what the whole run does
-    pub record Underway (main store answers : List ℕ) (s : Running) (i : ℕ) : Type 0 where
-      pub count : n ≡ length chain / ccwSize
-      pub below : i ≤ n
+    -- between two turns: the lengths are kept, the state is safe, command i begins with CCW `at`, there is room for an answer to each CCW
+    -- from there on, and what is still to run from here gives what the whole run does
+    pub record Underway (main store answers : List ℕ) (s : Running) (at reached : ℕ) : Type 0 where
+      pub command : ℕ
+      pub count : n ≡ length (commandsIn chain)
+      pub begins : Begins chain command at
       pub main-length : length main ≡ length main₀
       pub store-length : length store ≡ length store₀
       pub answers-length : length answers ≡ length answers₀
+      pub room : (reached + (ccwsOf chain - at)) * answerSize ≤ length answers₀
       pub safe : Safe (stateOf u s) (blockCount dev store)
-      pub same : Given (run dev chain (n - i) i (systemOf u s main store answers i))
-          (leftFrom dev chain (n - i) i s (systemOf u s main store answers i))
+      pub same : Given (run dev chain (n - command) command (systemOf u s main store answers reached))
+          (leftFrom dev chain (n - command) command s (systemOf u s main store answers reached))
 
-    pub underway-start : n ≡ length chain / ccwSize → Safe (stateOf u s₀) (blockCount dev store₀) → Underway main₀ store₀ answers₀ s₀ 0
-    underway-start e h = record {
+    pub underway-start : n ≡ length (commandsIn chain) → length chain ≤ length answers₀ → Safe (stateOf u s₀) (blockCount dev store₀) → Underway main₀ store₀ answers₀ s₀ 0 0
+    unfolding commandsIn
+    underway-start e l h = record {
+      command = 0;
       count = e;
-      below = omega arith;
+      begins = rw sub-zero refl;
       main-length = refl;
       store-length = refl;
       answers-length = refl;
+      room = omega (arith, l);
       safe = h;
       same = (rw sub-zero refl, rw sub-zero refl);
     }
 
-    module _ (main store answers : List ℕ) (s : Running) (i : ℕ) (w : Underway main store answers s i) where
+    module _ (main store answers : List ℕ) (s : Running) (at reached : ℕ) (w : Underway main store answers s at reached) where
       abbrev here : System
-      here = systemOf u s main store answers i
+      here = systemOf u s main store answers reached
+
+      -- a CCW of the chain begins a command
+      pub underway-more : at < ccwsOf chain → w .command < n
+      underway-more h = rw (w .count) (begins-some chain (w .command) at (w .begins) h)
 
       -- a turn that goes on leaves the run underway
-      pub underway-next : (main′ store′ answers′ : List ℕ) (l : Left) → i < n → 1 ≤ blockCount dev store → n * answerSize ≤ length answers₀
-          → systemLeft u l main′ store′ answers′ (i + 1) ≡ next dev chain i here → more dev chain i here ≡ true → l ≡ leftAt dev chain i s here
-          → Underway main′ store′ answers′ (l .state) (i + 1)
-      underway-next main′ store′ answers′ l h b a d g f =
-          let e : systemOf u (l .state) main′ store′ answers′ (i + 1) ≡ next dev chain i here = rw (on-left u i s here l g f) at d in
+      pub underway-next : (main′ store′ answers′ : List ℕ) (t : Turn) → at < ccwsOf chain → 1 ≤ blockCount dev store → Turned dev chain u s here at (w .command) t main′ store′ answers′ → more dev chain (w .command) here ≡ true
+          → Underway main′ store′ answers′ (t .left .state) (t .end) (t .reached)
+      underway-next main′ store′ answers′ t h b p g =
+          let i : ℕ = w .command in
+          let more : i < n = underway-more h in
+          let e : systemOf u (t .left .state) main′ store′ answers′ (t .reached) ≡ next dev chain i here = rw (on-left u i s here (t .left) g (p .left)) at (p .after) in
           let long : length answers ≡ length answers₀ = w .answers-length in
-          let k = next-going dev chain here b i here (omega (arith, long)) (record { main-length = refl; store-length = refl; answers-length = refl; safe = w .safe }) in
-          let m : Going dev here (systemOf u (l .state) main′ store′ answers′ (i + 1)) = rw e k in
+          let left : ccwsLeft chain i ≡ ccwsOf chain - at = begins-left chain i at (w .begins) in
+          let behind : ccwsLeft chain (i + 1) ≡ ccwsOf chain - t .end = begins-left chain (i + 1) (t .end) (p .behind) in
+          let k = next-going dev chain here b i here (omega (arith, more, w .count)) (omega (arith, long, left, w .room)) (record { main-length = refl; store-length = refl; answers-length = refl; safe = w .safe }) in
+          let m : Going dev here (systemOf u (t .left .state) main′ store′ answers′ (t .reached)) = rw e (k .0) in
+          let given : t .reached ≡ next dev chain i here .reached = ap (λ (y : System). y .reached) e in
           record {
+            command = i + 1;
             count = w .count;
-            below = omega arith;
+            begins = p .behind;
             main-length = m .main-length ∙ w .main-length;
             store-length = m .store-length ∙ w .store-length;
             answers-length = m .answers-length ∙ w .answers-length;
+            room = omega (arith, k .1, given, behind, long);
             safe = m .safe;
             same = (
-              rw e (sym (run-suc (n - i) (n - (i + 1)) i here (omega arith) ∙ pick-true _ _ _ g)) ∙ w .same .0,
-              rw (e, f) (sym (left-suc (n - i) (n - (i + 1)) i s here (omega arith) ∙ pick-true _ _ _ g)) ∙ w .same .1,
+              rw e (sym (run-suc (n - i) (n - (i + 1)) i here (omega (arith, more)) ∙ pick-true _ _ _ g)) ∙ w .same .0,
+              rw (e, p .left) (sym (left-suc (n - i) (n - (i + 1)) i s here (omega (arith, more)) ∙ pick-true _ _ _ g)) ∙ w .same .1,
             );
           }
 
       -- a turn that does not go on ends the run
-      pub underway-stop : (y : System) (l : Left) → i < n → y ≡ next dev chain i here → more dev chain i here ≡ false
-          → l ≡ leftAt dev chain i s here → Given y l
-      underway-stop y l h e g f = (
-        e ∙ sym (run-suc (n - i) (n - (i + 1)) i here (omega arith) ∙ pick-false _ _ _ g) ∙ w .same .0,
-        f ∙ sym (left-suc (n - i) (n - (i + 1)) i s here (omega arith) ∙ pick-false _ _ _ g) ∙ w .same .1,
-      )
+      pub underway-stop : (y : System) (l : Left) → at < ccwsOf chain → y ≡ next dev chain (w .command) here → more dev chain (w .command) here ≡ false
+          → l ≡ leftAt dev chain (w .command) s here → Given y l
+      underway-stop y l h e g f =
+          let i : ℕ = w .command in
+          let more : i < n = underway-more h in (
+            e ∙ sym (run-suc (n - i) (n - (i + 1)) i here (omega (arith, more)) ∙ pick-false _ _ _ g) ∙ w .same .0,
+            f ∙ sym (left-suc (n - i) (n - (i + 1)) i s here (omega (arith, more)) ∙ pick-false _ _ _ g) ∙ w .same .1,
+          )
 
-      pub underway-done : n ≤ i → Given here (record { state = s; sense = noSense; cause = 0 })
-      underway-done h = (sym (run-done (n - i) i here (omega arith)) ∙ w .same .0, sym (left-done (n - i) i s here (omega arith)) ∙ w .same .1)
-
--- an answer's two numbers, put one after the other, and the mark of a wrong length
-pub put-words : (answers first both f b : List ℕ) (at front back : ℕ) → f ≡ bytes4 front → b ≡ bytes4 back → first ≡ put answers at (take 4 f) → both ≡ put first (at + 4) (take 4 b)
-    → at ≤ length answers → both ≡ put answers at (bytes4 front ++ bytes4 back)
-put-words answers first both f b at front back d e g h l = h ∙ rw (g, d, e) (put-more answers at (bytes4 front) (bytes4 back) l)
-
-pub put-marked : (answers both marks : List ℕ) (at front back : ℕ) (wrong : Bool) → both ≡ put answers at (bytes4 front ++ bytes4 back) → marks ≡ pick wrong (set both (at + 1) INCORRECT-LENGTH) both
-    → at ≤ length answers → marks ≡ put answers at (marked wrong (bytes4 front ++ bytes4 back))
-unfolding pick
-put-marked answers both marks at front back true e f l = f ∙ rw e (put-second answers at _ _ _ INCORRECT-LENGTH l)
-put-marked answers both marks at front back false e f l = f ∙ e
+      pub underway-done : ccwsOf chain ≤ at → Given here (record { state = s; sense = noSense; cause = 0 })
+      underway-done h =
+          let i : ℕ = w .command in
+          let none : n - i ≡ 0 = rw (w .count) (begins-none chain i at (w .begins) h) in
+          (sym (run-done (n - i) i here none) ∙ w .same .0, sym (left-done (n - i) i s here none) ∙ w .same .1)
 
 -- `Leaves` says all of what is left
-pub left-known : (u : Record) (c : Ccw) (s : Running) (l : Left) (o : Out) → Leaves u c s l o → l ≡ leftOf c s o
+pub left-known : (u : Record) (c : Command) (s : Running) (l : Left) (o : Out) → Leaves u c s l o → l ≡ leftOf c s o
 unfolding leftOf pick stateOf unitOf counted withCounts
 left-known u c s l o p =
     let state = go (o .done .cause =? 0) refl in
@@ -180,45 +242,60 @@ left-known u c s l o p =
         rw (← (p .kept z), ← same) refl
     go false e = p .refused (λ z. eqb-false _ _ e (sym (p .cause) ∙ z))
 
--- one turn is the definition's: the CCW, the step, the answer
+-- one turn is the definition's: the command, the step, the answers
 
 -- of an accepted command, its channel status is zero where its length is not wrong
-go-by-kind : (zero channels : Bool) (c : Ccw) (can : ℕ) (chained : Bool) → (zero && channelBy (kindBy zero channels) (wrongLength c can) =? 0 && chained) ≡ (zero && not (wrongBy (kindBy zero channels) c can) && chained)
-go-by-kind true channels c can chained = go (wrongLength c can)
-  where
-    go : (wrong : Bool) → (channelBy Accepted wrong =? 0 && chained) ≡ (not wrong && chained)
-    go true = refl
-    go false = refl
-go-by-kind false channels c can chained = refl
+go-by-kind : (zero channels wrong chained : Bool) → (zero && channelBy (kindBy zero channels) wrong =? 0 && chained) ≡ (zero && not (wrongBy (kindBy zero channels) wrong) && chained)
+go-by-kind true channels true chained = refl
+go-by-kind true channels false chained = refl
+go-by-kind false channels wrong chained = refl
 
-module _ (dev : Device) (chain : List ℕ) (i : ℕ) (c : Ccw) (u : Record) (s : Running) (main store answers main′ store′ : List ℕ) (r : Ended)
-    (e : c ≡ ccwAt chain i) (f : Ends u c s r main′ store′ (step dev c (stateOf u s) main store)) where
+-- what is put for a command is its answers
+given-answers : (chain : List ℕ) (c : Decoded) (d : Done) (last : Answer) (moved : ℕ) (wrong : Bool) → last ≡ answerWords (kindOf (d .cause)) (d .cause) (d .blocks) → moved ≡ d .moved
+    → wrong ≡ wrongBy (kindOf (d .cause)) (wrongLength (commandOf chain c) (d .can)) → spreadOver chain (c .area) moved .residual < 65536 → d .cause < 256 → d .blocks < 65536
+    → answersGiven chain (c .area) last moved wrong ≡ answersOf (commandOf chain c) d
+unfolding answersGiven answersOf filled residual
+given-answers chain c d last moved wrong e f g hr hw hb =
+    rw (e, f, g) (ap (λ (l : List ℕ). zeros (filled (commandOf chain c) d * answerSize) ++ l) (answer-bytes (commandOf chain c) d (rw (← f) hr) hw hb))
+
+pub front-small : {u : Record} {c : Command} {s : Running} {r : Ended} {main store : List ℕ} {o : Out} → Ends u c s r main store o → r .answer .front < 4294967296
+front-small {o = o} f =
+    let k : Kind = kindOf (o .done .cause) in
+    rw (f .answer) (omega (arith, status-byte k, channel-byte k false))
+
+module _ (dev : Device) (chain : List ℕ) (at i : ℕ) (c : Decoded) (u : Record) (s : Running) (main store answers main′ store′ : List ℕ) (r : Ended) (reached : ℕ)
+    (told : Decodes chain c) (e : commandAt chain i ≡ commandOf chain c) (f : Ends u (commandOf chain c) s r main′ store′ (step dev (commandOf chain c) (stateOf u s) main store)) where
   abbrev found : System
-  found = systemOf u s main store answers i
+  found = systemOf u s main store answers reached
 
-  turned-system : (answers′ : List ℕ) → answers′ ≡ put answers (i * answerSize) (marked (r .wrong) (answerBytes (r .answer))) → c .count < 65536 → 1 ≤ dev .block
-      → systemLeft u (r .left) main′ store′ answers′ (i + 1) ≡ next dev chain i found
-  unfolding next stepAt
-  turned-system answers′ h n b =
-      let o : Out = step dev c (stateOf u s) main store in
-      let small : o .done .cause < 256 = rw (step-cause dev c (stateOf u s) main store) (verdict-small dev c (stateOf u s) main store) in
-      let few : o .done .blocks < 65536 = omega (arith, step-blocks dev c (stateOf u s) main store b, n) in
-      let answer : marked (r .wrong) (answerBytes (r .answer)) ≡ answerOf c (o .done) = rw (f .wrong, f .answer) (answer-bytes c (o .done) n small few) in
-      rw (← e, h, answer, f .left .state, f .main-same, f .store-same)
+  turned-system : (answers′ : List ℕ) (given : ℕ) → answers′ ≡ put answers (reached * answerSize) (answersGiven chain (c .area) (r .answer) (r .moved) (r .wrong))
+      → given ≡ reached + (spreadOver chain (c .area) (r .moved) .filled + 1) → spreadOver chain (c .area) (r .moved) .residual < 65536 → 1 ≤ dev .block → s .located .blocks < 65536
+      → systemLeft u (r .left) main′ store′ answers′ given ≡ next dev chain i found
+  unfolding next stepAt answered filled stateOf
+  turned-system answers′ given h g m b l =
+      let k : Command = commandOf chain c in
+      let o : Out = step dev k (stateOf u s) main store in
+      let small : o .done .cause < 256 = rw (step-cause dev k (stateOf u s) main store) (verdict-small dev k (stateOf u s) main store) in
+      let few : o .done .blocks < 65536 = step-blocks dev k (stateOf u s) main store b l in
+      let answer : answersGiven chain (c .area) (r .answer) (r .moved) (r .wrong) ≡ answersOf k (o .done) = given-answers chain c (o .done) _ _ _ (f .answer) (f .moved) (f .wrong) m small few in
+      rw (e, h, g, answer, f .moved, f .left .state, f .main-same, f .store-same)
 
-  turned-go : (b : Bool) → b ≡ (r .left .cause =? 0 && not (r .wrong) && flag c chain-command) → b ≡ more dev chain i found
-  unfolding more stepAt goesOn channelStatus
+  turned-go : (b : Bool) → b ≡ (r .left .cause =? 0 && not (r .wrong) && bit (c .flags .0) chain-command) → b ≡ more dev chain i found
+  unfolding more stepAt goesOn channelStatus flag
   turned-go b g =
-      let d : Done = step dev c (stateOf u s) main store .done in
-      rw (← e) (g ∙ rw (f .left .cause, f .wrong) (sym (go-by-kind (d .cause =? 0) (oneOf (10 ∷ 11 ∷ 12 ∷ 13 ∷ []) (d .cause)) c (d .can) (flag c chain-command))))
+      let k : Command = commandOf chain c in
+      let d : Done = step dev k (stateOf u s) main store .done in
+      rw e (g ∙ rw (f .left .cause, f .wrong, told .flags) (sym (go-by-kind (d .cause =? 0) (oneOf (10 ∷ 11 ∷ 12 ∷ 13 ∷ []) (d .cause)) (wrongLength k (d .can)) (flag (final k) chain-command))))
 
   turned-left : r .left ≡ leftAt dev chain i s found
   unfolding stepAt
-  turned-left = rw (← e) (left-known u c s (r .left) _ (f .left))
+  turned-left = rw e (left-known u (commandOf chain c) s (r .left) _ (f .left))
 
-  pub turned : (answers′ : List ℕ) (b : Bool) → answers′ ≡ put answers (i * answerSize) (marked (r .wrong) (answerBytes (r .answer))) → CcwFits c → Usable dev
-      → b ≡ (r .left .cause =? 0 && not (r .wrong) && flag c chain-command) → Turned dev chain u s found i (record { left = r .left; go = b }) main′ store′ answers′
-  turned answers′ b h n d g = record { after = turned-system answers′ h (n .count) (d .some-size); go = turned-go b g; left = turned-left }
+  pub turned : (answers′ : List ℕ) (given : ℕ) (b : Bool) → answers′ ≡ put answers (reached * answerSize) (answersGiven chain (c .area) (r .answer) (r .moved) (r .wrong))
+      → given ≡ reached + (spreadOver chain (c .area) (r .moved) .filled + 1) → spreadOver chain (c .area) (r .moved) .residual < 65536 → Usable dev → s .located .blocks < 65536
+      → b ≡ (r .left .cause =? 0 && not (r .wrong) && bit (c .flags .0) chain-command) → Begins chain (i + 1) (c .area .end) → at < c .area .end
+      → Turned dev chain u s found at i (record { left = r .left; end = c .area .end; reached = given; go = b }) main′ store′ answers′
+  turned answers′ given b h g m d l k y z = record { after = turned-system answers′ given h g m (d .some-size) l; go = turned-go b k; left = turned-left; behind = y; on = z }
 
 -- a store that kept its length is as good
 pub sound-same : (dev : Device) (u : Record) (s t : Running) (store store′ : List ℕ) → length store′ ≡ length store → Sound dev s store → Safe (stateOf u t) (blockCount dev store′) → Sound dev t store′

@@ -4,22 +4,25 @@
 --     leftFrom              what the run leaves, the chain from command i on, n commands at most: it goes on where `run` does
 --     systemOf, systemLeft  the systems that a `Running` and a `Left` stand for, with what is lent
 --     runOf, leftBy         the system after the whole chain, and what it leaves; leftCall   what a call leaves
+--     Begins                command i of the chain begins with a CCW
+--     InRun                 what a turn asks for: the CCW is in the chain, the state is sound, and there is room for an answer to each CCW left
 --     Turned                one turn is the definition's: the promise of `one_turn`
 --     Walks, Allowed        so is a run, and a call that no cause refuses
 --     calledWith            what a call gives, with what was lent
 -- Assumes nothing.
-use Prim.Native.Nat.{ℕ, zero, suc, _+_, _/_}
+use Prim.Native.Nat.{ℕ, zero, suc, _+_, _-_, _*_, _/_, _≤_, _<_}
 use mathlib.Core.Path.{_≡_}
 use mathlib.Core.Bool.{Bool, _&&_}
 use mathlib.Core.List.{List}
-use lib.ListN.{length}
+use lib.ListN.{length, drop}
 use Rattle.numbers.specs.Choice.{_=?_, pick}
-use Rattle.model.specs.declared.ccw.Ccw.{Ccw}
 use Rattle.model.specs.declared.device.Device.{Device}
 use Rattle.model.specs.declared.record.Record.{Record}
 use Rattle.model.specs.State.{State}
 use Rattle.model.specs.Names.{NO-OPERATION}
-use Rattle.model.specs.Lent.{ccwSize, ccwAt, fetched}
+use Rattle.model.specs.Lent.{ccwSize}
+use Rattle.model.specs.Pieces.{Command, commandsFrom, commandsIn, commandAt, fetched}
+use Rattle.model.specs.Answer.{answerSize}
 use Rattle.model.specs.Parameters.{locateLength}
 use Rattle.model.specs.Sense.{shown}
 use Rattle.model.specs.Commands.{Out}
@@ -28,7 +31,7 @@ use Rattle.log.specs.Counts.{countsOf}
 use Rattle.sense_table.specs.Sensed.{senseShowing, noSense}
 use Rattle.unit_state.specs.declared.Running.{Running}
 use Rattle.unit_state.specs.declared.Left.{Left}
-use Rattle.unit_state.specs.Standing.{started, stateOf, stateLeft}
+use Rattle.unit_state.specs.Standing.{started, stateOf, stateLeft, Sound}
 use Rattle.chain.specs.declared.run.Turn.{Turn}
 use Rattle.chain.specs.declared.run.Walked.{Walked}
 use Rattle.chain.specs.declared.call.Returned.{Returned}
@@ -44,7 +47,7 @@ carriedOf kept s = record {
 }
 
 -- a refused command leaves what it found
-unfoldable pub leftOf : Ccw → Running → Out → Left
+unfoldable pub leftOf : Command → Running → Out → Left
 leftOf c s o = record {
   state = pick (o .done .cause =? 0) (carriedOf (s .kept && c .command =? NO-OPERATION) (o .done .state)) s;
   sense = senseShowing (o .done .cause) (shown (o .done .cause) (fetched c (o .main) locateLength));
@@ -53,17 +56,17 @@ leftOf c s o = record {
 
 module _ (dev : Device) (chain : List ℕ) where
   abbrev pub leftAt : ℕ → Running → System → Left
-  leftAt i s y = leftOf (ccwAt chain i) s (stepAt dev chain i y)
+  leftAt i s y = leftOf (commandAt chain i) s (stepAt dev chain i y)
 
   unfoldable pub leftFrom : ℕ → ℕ → Running → System → Left
   leftFrom zero i s y = record { state = s; sense = noSense; cause = 0 }
   leftFrom (suc n) i s y = pick (more dev chain i y) (leftFrom n (i + 1) (leftAt i s y .state) (next dev chain i y)) (leftAt i s y)
 
   abbrev pub runOf : System → System
-  runOf y = run dev chain (length chain / ccwSize) 0 y
+  runOf y = run dev chain (length (commandsIn chain)) 0 y
 
   abbrev pub leftBy : Running → System → Left
-  leftBy s y = leftFrom (length chain / ccwSize) 0 s y
+  leftBy s y = leftFrom (length (commandsIn chain)) 0 s y
 
 module _ (u : Record) where
   abbrev pub systemOf : Running → List ℕ → List ℕ → List ℕ → ℕ → System
@@ -75,12 +78,29 @@ module _ (u : Record) where
 abbrev pub leftCall : Device → List ℕ → List ℕ → List ℕ → Record → List ℕ → Left
 leftCall dev chain main store u answers = leftBy dev chain (started u) (system (start u) main store answers 0)
 
+-- the CCWs of a chain
+abbrev pub ccwsOf : List ℕ → ℕ
+ccwsOf chain = length chain / ccwSize
+
+-- the commands from i on are those of the CCWs from one on
+abbrev pub Begins : List ℕ → ℕ → ℕ → Type 0
+Begins chain i at = drop i (commandsIn chain) ≡ commandsFrom chain (ccwsOf chain - at) at
+
+-- `reached` answers were given before
+pub record InRun (dev : Device) (chain : List ℕ) (at reached : ℕ) (s : Running) (store answers : List ℕ) : Type 0 where
+  pub sound : Sound dev s store
+  pub short : length chain ≤ 256
+  pub lent : at < ccwsOf chain
+  pub room : (reached + (ccwsOf chain - at)) * answerSize ≤ length answers
+
 -- in a chain that found record u, of a turn or a run that found s carried, which stands for system y, and leaves these buffers
 
-pub record Turned (dev : Device) (chain : List ℕ) (u : Record) (s : Running) (y : System) (i : ℕ) (t : Turn) (main store answers : List ℕ) : Type 0 where
-  pub after : systemLeft u (t .left) main store answers (i + 1) ≡ next dev chain i y
+pub record Turned (dev : Device) (chain : List ℕ) (u : Record) (s : Running) (y : System) (at i : ℕ) (t : Turn) (main store answers : List ℕ) : Type 0 where
+  pub after : systemLeft u (t .left) main store answers (t .reached) ≡ next dev chain i y
   pub go : t .go ≡ more dev chain i y
   pub left : t .left ≡ leftAt dev chain i s y
+  pub behind : Begins chain (i + 1) (t .end)
+  pub on : at < t .end
 
 pub record Walks (dev : Device) (chain : List ℕ) (u : Record) (s : Running) (y : System) (w : Walked) (main store answers : List ℕ) : Type 0 where
   pub after : systemLeft u (w .left) main store answers (w .reached) ≡ runOf dev chain y

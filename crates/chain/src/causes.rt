@@ -1,12 +1,16 @@
 // The causes that refuse a call before any command: 1 to 5. The way in is `call_cause`, which is 0 where the chain may run.
 ghost use mathlib.Core.Path.{_≡_};
+ghost use mathlib.Core.Bool.{_||_};
 ghost use Prim.Native.Nat.{_/_};
 ghost use lib.ListN.{length};
+ghost use Rattle.numbers.specs.Bits.{bit};
+ghost use Rattle.model.specs.Names.{chain-data, chain-command};
 ghost use Rattle.model.specs.Rules.{firstOf};
 ghost use Rattle.model.specs.Lent.{ccwSize};
 ghost use Rattle.model.specs.Causes.{allChained, badChain, badStore, callCauses};
 ghost use Rattle.model.specs.Safe.{Usable};
-use channel::ccw::ccw_at;
+use channel::ccw::piece_at;
+use model::ccw::Flags;
 use model::device::Device;
 use model::sizes;
 
@@ -38,15 +42,25 @@ fn store_wrong(d: Device, store: &[u8]) -> bool
     sizes::BLOCKS_LIMIT < len / d.block
 }
 
-// Each CCW has flag 40, so no CCW is the chain's last.
+// Another CCW follows: one more piece of the command, or another command.
+fn another_follows(flags: Flags) -> bool
+    ensures { λ r. ⌜ r ≡ (bit (flags .0) chain-data || bit (flags .0) chain-command) ⌝ }
+{
+    if flags.continued() {
+        return true;
+    }
+    flags.chained()
+}
+
+// Each CCW has flag 80 or 40, so no CCW is the chain's last.
 fn all_chained(chain: &[u8]) -> bool
     ensures { λ r. ⌜ r ≡ allChained (now (chain .entry)) (length (now (chain .entry)) / ccwSize) ⌝ }
 {
     let n = chain.len() / sizes::CCW;
     let mut i = 0;
     while i < n {
-        let c = ccw_at(chain, i);
-        if !c.flags.chained() {
+        let p = piece_at(chain, i);
+        if !another_follows(p.flags) {
             return false;
         }
         i += 1;

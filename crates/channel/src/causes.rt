@@ -1,10 +1,14 @@
 // The channel's own tests of a command, causes 13 and 10 to 12: the way in is `channel_cause`, which is 0 where the unit sees the command.
-use model::ccw::Ccw;
+use crate::ccw::next_piece;
+use model::ccw::Piece;
 use model::command;
+use model::decoded::Area;
+use model::decoded::Decoded;
 ghost use mathlib.Core.Path.{_≡_};
 ghost use Rattle.model.specs.Rules.{firstOf};
-ghost use Rattle.model.specs.Causes.{noCommand, leavesStorage, channelCauses};
-ghost use Rattle.model.specs.Safe.{CcwFits};
+ghost use Rattle.model.specs.Causes.{noCommand, leavesStorage, pieceCauses, testedOf, channelCauses};
+ghost use Rattle.model.specs.Decoded.{Stands, Decodes, laterOf, commandOf};
+ghost use Rattle.model.specs.Safe.{PieceFits};
 
 // The low four bits are 0 or 8: to the channel, no command.
 fn no_command(command: u8) -> bool
@@ -13,34 +17,68 @@ fn no_command(command: u8) -> bool
     command & 0x07 == 0
 }
 
-// The data area leaves main storage. NO-OPERATION has none.
-fn leaves_storage(c: Ccw, held: usize) -> bool
-    requires { ⌜ CcwFits c ⌝ }
-    ensures { λ r. ⌜ r ≡ leavesStorage c held ⌝ }
+// A piece of this command's data area leaves main storage. NO-OPERATION has none.
+fn leaves_storage(command: u8, p: Piece, held: usize) -> bool
+    requires { ⌜ PieceFits p ⌝ }
+    ensures { λ r. ⌜ r ≡ leavesStorage command p held ⌝ }
 {
-    if c.command == command::NO_OPERATION {
+    if command == command::NO_OPERATION {
         return false;
     }
-    held < c.address + c.count
+    held < p.address + p.count
 }
 
-// In their order.
-pub fn channel_cause(c: Ccw, main: &[u8]) -> u8
-    requires { ⌜ CcwFits c ⌝ }
-    ensures { λ r. ⌜ r ≡ firstOf (channelCauses c (now (main .entry))) ⌝ }
+// In their order, of one piece.
+fn piece_cause(command: u8, p: Piece, held: usize) -> u8
+    requires { ⌜ PieceFits p ⌝ }
+    ensures { λ r. ⌜ r ≡ firstOf (pieceCauses command held p) ⌝ }
 {
-    let flags = c.flags;
-    if no_command(c.command) {
-        return 13;
-    }
+    let flags = p.flags;
     if flags.others() {
         return 10;
     }
-    if c.count == 0 {
+    if p.count == 0 {
         return 11;
     }
-    if leaves_storage(c, main.len()) {
+    if leaves_storage(command, p, held) {
         return 12;
     }
     0
+}
+
+// Piece by piece, up to the first that is refused.
+fn pieces_cause(chain: &[u8], command: u8, a: Area, held: usize) -> u8
+    requires { ⌜ Stands (now chain) a × PieceFits (a .piece) ⌝ }
+    ensures { λ r. ⌜ r ≡ firstOf (pieceCauses command held (testedOf command held (a .piece) (laterOf (now (chain .entry)) a))) ⌝ }
+{
+    let mut area = a;
+    loop {
+        let cause = piece_cause(command, area.piece, held);
+        if cause != 0 {
+            return cause;
+        }
+        if area.end <= area.next {
+            return 0;
+        }
+        area = next_piece(chain, area);
+    }
+}
+
+// The command's own byte, then its pieces; the first is told apart, for most commands have no other.
+pub fn channel_cause(chain: &[u8], c: Decoded, main: &[u8]) -> u8
+    requires { ⌜ Decodes (now chain) c ⌝ }
+    ensures { λ r. ⌜ r ≡ firstOf (channelCauses (commandOf (now (chain .entry)) c) (now (main .entry))) ⌝ }
+{
+    if no_command(c.command) {
+        return 13;
+    }
+    let a = c.area;
+    let cause = piece_cause(c.command, a.piece, main.len());
+    if cause != 0 {
+        return cause;
+    }
+    if a.end <= a.next {
+        return 0;
+    }
+    pieces_cause(chain, c.command, next_piece(chain, a), main.len())
 }

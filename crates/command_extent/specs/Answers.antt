@@ -6,7 +6,7 @@ use Prim.Native.Nat.{ℕ}
 use mathlib.Core.List.{List}
 use Rattle.numbers.specs.Choice.{_=?_, pick}
 use Rattle.slices.specs.Parts.{zeros}
-use Rattle.model.specs.declared.ccw.Ccw.{Ccw}
+use Rattle.model.specs.declared.decoded.Decoded.{Decoded}
 use Rattle.model.specs.declared.device.Device.{Device}
 use Rattle.model.specs.declared.state.Before.the-variants.{Other}
 use Rattle.model.specs.Rules.{firstOf}
@@ -27,7 +27,7 @@ definedNumber BadSize = 24
 definedNumber FirstAfterLast = 25
 definedNumber PastDevice = 26
 
-unfoldable pub definedBy : Device → ℕ → Ccw → Running → List ℕ → Ended
+unfoldable pub definedBy : Device → ℕ → Decoded → Running → List ℕ → Ended
 definedBy dev blocks c s p =
     let cause = firstOf (extentCauses dev blocks p) in
     pick (cause =? 0) (acceptedEnd c (withExtent s (s .counts) (extentIn p) Other) extentLength extentLength 0) (parametersRefused c s cause extentLength (zeros locateLength))

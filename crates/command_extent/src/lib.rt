@@ -5,7 +5,7 @@ use endings::Ended;
 use endings::accept;
 use endings::refuse;
 use endings::refuse_parameters;
-use model::ccw::Ccw;
+use model::decoded::Decoded;
 use model::device::Device;
 use model::extent::Displacement;
 use model::extent::Extent;
@@ -24,10 +24,8 @@ ghost use Rattle.model.specs.Causes.{badMask, otherSize, pastDevice, extentCaus
 ghost use Rattle.model.specs.declared.record.Record.{Record};
 ghost use Rattle.model.specs.Names.{DEFINE-EXTENT};
 ghost use Rattle.model.specs.Parameters.{extentLength, extentIn};
-ghost use Rattle.model.specs.Commands.{performed};
-ghost use Rattle.model.specs.Safe.{CcwFits};
-ghost use Rattle.unit_state.specs.Standing.{stateOf, Sound, Handed};
-ghost use Rattle.endings.specs.Ending.{Ends};
+ghost use Rattle.unit_state.specs.Standing.{Sound, Handed};
+ghost use Rattle.endings.specs.Ending.{Performs};
 ghost use Rattle.command_extent.specs.Answers.{definedNumber, definedBy};
 
 pub enum Defined {
@@ -131,8 +129,8 @@ fn define_parameters(d: Device, blocks: usize, e: Extent, p: &[u8]) -> Defined
 }
 
 // The command by its sixteen bytes.
-fn define_by(d: Device, blocks: usize, c: Ccw, s: Running, p: &[u8]) -> Ended
-    requires { ⌜ (length (now p) ≡ extentLength) × (extentLength ≤ c .count) × CcwFits c ⌝ }
+fn define_by(d: Device, blocks: usize, c: Decoded, s: Running, p: &[u8]) -> Ended
+    requires { ⌜ length (now p) ≡ extentLength ⌝ }
     ensures { λ r. ⌜ r ≡ definedBy d blocks c s (now (p .entry)) ⌝ }
 {
     let e = extent_in(p);
@@ -145,9 +143,16 @@ fn define_by(d: Device, blocks: usize, c: Ccw, s: Running, p: &[u8]) -> Ended
     accept(c, t, sizes::EXTENT, sizes::EXTENT, 0)
 }
 
-pub fn define_extent(d: Device, c: Ccw, s: Running, main: &[u8], store: &[u8]) -> Ended
-    requires { ⌜ Sound d s (now store) × Handed c (now main) × (c .command ≡ DEFINE-EXTENT) ⌝ }
-    ensures { λ r. ⌜ ((u : Record) → Ends u c s r (now (main .entry)) (now (store .entry)) (performed d c (stateOf u s) (now (main .entry)) (now (store .entry)))) ⌝ }
+pub fn define_extent(
+    d: Device,
+    chain: &[u8],
+    c: Decoded,
+    s: Running,
+    main: &[u8],
+    store: &[u8],
+) -> Ended
+    requires { ⌜ Sound d s (now store) × Handed (now chain) c (now main) × (c .command ≡ DEFINE-EXTENT) ⌝ }
+    ensures { λ r. ⌜ ((u : Record) → Performs d u (now (chain .entry)) c s r (now (main .entry)) (now (store .entry)) (now (main .entry)) (now (store .entry))) ⌝ }
 {
     if c.count < sizes::EXTENT {
         return refuse(c, s, 20);
@@ -156,6 +161,6 @@ pub fn define_extent(d: Device, c: Ccw, s: Running, main: &[u8], store: &[u8]) -
         return refuse(c, s, 21);
     }
     let mut p = [0u8; sizes::EXTENT];
-    fetch(c, main, 0, &mut p, sizes::EXTENT);
+    fetch(chain, c.area, main, &mut p, sizes::EXTENT);
     define_by(d, block_count(d, store), c, s, &p)
 }

@@ -5,7 +5,7 @@
 use Prim.Native.Nat.{ℕ}
 use mathlib.Core.List.{List}
 use Rattle.numbers.specs.Choice.{_=?_, pick}
-use Rattle.model.specs.declared.ccw.Ccw.{Ccw}
+use Rattle.model.specs.declared.decoded.Decoded.{Decoded}
 use Rattle.model.specs.declared.record.Record.{Record}
 use Rattle.model.specs.Rules.{firstOf}
 use Rattle.model.specs.Parameters.{locateLength, locatedIn}
@@ -30,7 +30,7 @@ locationNumber Forbidden = 37
 locationNumber ReadOnly = 38
 locationNumber NoAlternate = 39
 
-unfoldable pub locatedBy : Record → Ccw → Running → List ℕ → Ended
+unfoldable pub locatedBy : Record → Decoded → Running → List ℕ → Ended
 locatedBy u c s p =
     let cause = firstOf (locationCauses (stateOf u s) p) in
     pick (cause =? 0) (acceptedEnd c (withLocate s (withMovement (s .counts)) (locatedIn p)) locateLength locateLength 0) (parametersRefused c s cause locateLength (shown cause p))

@@ -5,7 +5,7 @@ use endings::accept;
 use endings::refuse;
 use endings::refuse_parameters;
 use log::movement_counted;
-use model::ccw::Ccw;
+use model::decoded::Decoded;
 use model::extent::Displacement;
 use model::extent::Extent;
 use model::extent::Located;
@@ -17,19 +17,17 @@ use unit_state::Running;
 use unit_state::locate_set;
 ghost use mathlib.Core.Path.{_≡_};
 ghost use mathlib.Core.List.{List};
-ghost use Prim.Native.Nat.{ℕ, _≤_, _<_};
+ghost use Prim.Native.Nat.{ℕ, _<_};
 ghost use lib.ListN.{length};
 ghost use Rattle.numbers.specs.Choice.{oneOf};
 ghost use Rattle.model.specs.declared.device.Device.{Device};
 ghost use Rattle.model.specs.Names.{LOCATE};
 ghost use Rattle.model.specs.Rules.{firstOf};
-ghost use Rattle.model.specs.Lent.{fetched};
 ghost use Rattle.model.specs.Parameters.{locateLength, locatedIn, processed, operations, forbids, outside};
 ghost use Rattle.model.specs.Causes.{badModifiers, badCount, badReplication, inhibits, locationCauses, permissionCauses};
 ghost use Rattle.model.specs.Sense.{shown};
-ghost use Rattle.model.specs.Commands.{performed};
 ghost use Rattle.unit_state.specs.Standing.{stateOf, Handed};
-ghost use Rattle.endings.specs.Ending.{Ends};
+ghost use Rattle.endings.specs.Ending.{Performs};
 ghost use Rattle.command_locate.specs.Answers.{locationNumber, locatedBy};
 
 pub enum Location {
@@ -76,7 +74,7 @@ fn located_in(p: &[u8]) -> Located
     Located {
         operation: (p[0] & 0x0F) as u32,
         displacement: Displacement(numbers::be4(p, 4)),
-        blocks: numbers::be2(p, 2),
+        blocks: numbers::be2(p, 2) as u16,
     }
 }
 
@@ -115,7 +113,7 @@ fn replication_wrong(l: Located, replication: usize) -> bool
     if l.operation != operation::READ_REPLICATED {
         return false;
     }
-    let unit = l.blocks;
+    let unit = l.blocks as usize;
     if replication < unit {
         return true;
     }
@@ -129,7 +127,7 @@ fn blocks_processed(l: Located, replication: usize) -> usize
     if l.operation == operation::READ_REPLICATED {
         replication
     } else {
-        l.blocks
+        l.blocks as usize
     }
 }
 
@@ -219,35 +217,35 @@ fn locate_parameters(u: Record, s: Running, p: &[u8]) -> Location
 }
 
 // The parameters that a cause shows: the LOCATE's eight bytes with 39, else zeros.
-fn shown_by(cause: u8, c: Ccw, main: &[u8]) -> [u8; sizes::LOCATE]
-    requires { ⌜ Handed c (now main) × (locateLength ≤ c .count) ⌝ }
-    ensures { λ r. ⌜ r ≡ shown cause (fetched c (now (main .entry)) locateLength) ⌝ }
+fn shown_by(cause: u8, p: &[u8]) -> [u8; sizes::LOCATE]
+    requires { ⌜ length (now p) ≡ locateLength ⌝ }
+    ensures { λ r. ⌜ r ≡ shown cause (now (p .entry)) ⌝ }
 {
-    let mut p = [0u8; sizes::LOCATE];
+    let mut shown = [0u8; sizes::LOCATE];
     if cause == 39 {
-        fetch(c, main, 0, &mut p, sizes::LOCATE);
+        slices::copy(p, &mut shown, sizes::LOCATE);
     }
-    p
+    shown
 }
 
 // The command by its eight bytes.
-fn locate_by(u: Record, c: Ccw, s: Running, main: &[u8], p: &[u8]) -> Ended
-    requires { ⌜ Handed c (now main) × (locateLength ≤ c .count) × (now p ≡ fetched c (now main) locateLength) ⌝ }
-    ensures { λ r. ⌜ r ≡ locatedBy u c s (fetched c (now (main .entry)) locateLength) ⌝ }
+fn locate_by(u: Record, c: Decoded, s: Running, p: &[u8]) -> Ended
+    requires { ⌜ length (now p) ≡ locateLength ⌝ }
+    ensures { λ r. ⌜ r ≡ locatedBy u c s (now (p .entry)) ⌝ }
 {
     let answer = locate_parameters(u, s, p);
     let cause = answer.number();
     if cause != 0 {
-        return refuse_parameters(c, s, cause, sizes::LOCATE, shown_by(cause, c, main));
+        return refuse_parameters(c, s, cause, sizes::LOCATE, shown_by(cause, p));
     }
     let t = locate_set(s, movement_counted(s.counts), located_in(p));
     accept(c, t, sizes::LOCATE, sizes::LOCATE, 0)
 }
 
 // Its parameters are taken from main storage now, when it runs.
-pub fn locate(u: Record, c: Ccw, s: Running, main: &[u8]) -> Ended
-    requires { ⌜ Handed c (now main) × (c .command ≡ LOCATE) ⌝ }
-    ensures { λ r. ⌜ ((d : Device) (store : List ℕ) → Ends u c s r (now (main .entry)) store (performed d c (stateOf u s) (now (main .entry)) store)) ⌝ }
+pub fn locate(u: Record, chain: &[u8], c: Decoded, s: Running, main: &[u8]) -> Ended
+    requires { ⌜ Handed (now chain) c (now main) × (c .command ≡ LOCATE) ⌝ }
+    ensures { λ r. ⌜ ((d : Device) (store : List ℕ) → Performs d u (now (chain .entry)) c s r (now (main .entry)) store (now (main .entry)) store) ⌝ }
 {
     if !s.defined {
         return refuse(c, s, 30);
@@ -256,6 +254,6 @@ pub fn locate(u: Record, c: Ccw, s: Running, main: &[u8]) -> Ended
         return refuse(c, s, 31);
     }
     let mut p = [0u8; sizes::LOCATE];
-    fetch(c, main, 0, &mut p, sizes::LOCATE);
-    locate_by(u, c, s, main, &p)
+    fetch(chain, c.area, main, &mut p, sizes::LOCATE);
+    locate_by(u, c, s, &p)
 }

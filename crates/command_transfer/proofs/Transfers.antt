@@ -5,7 +5,7 @@
 --     transfer-refused, passed             by the cause that the code found: refused, or let through
 --     Passed, move-asks, done-asks         what that says of the blocks to move, and of the ending
 --     read-ends, write-ends, ipl-ends      the bytes that were moved, and the ending, are the command
-use Prim.Native.Nat.{ℕ, _+_, _*_, _≤_, min}
+use Prim.Native.Nat.{ℕ, _+_, _*_, _≤_, _<_, min}
 use mathlib.Core.Path.{_≡_, refl, sym, ap, _∙_}
 use mathlib.Core.Bool.{Bool, true, not, and-false}
 use mathlib.Core.List.{List, []}
@@ -15,7 +15,7 @@ use native.Mathlib.Omega.{arith}
 use borrow.Author.Tests.{not-false, ne-eqb}
 use Rattle.numbers.specs.Choice.{_=?_, pick, oneOf}
 use Rattle.numbers.proofs.Choice.{pick-both}
-use Rattle.model.specs.declared.ccw.Ccw.{Ccw}
+use Rattle.model.specs.declared.decoded.Decoded.{Decoded}
 use Rattle.model.specs.declared.device.Device.{Device}
 use Rattle.model.specs.declared.extent.Extent.{Extent}
 use Rattle.model.specs.declared.extent.Located.{Located}
@@ -25,16 +25,19 @@ use Rattle.model.specs.declared.state.Before.the-variants.{Other, ReadIpl}
 use Rattle.model.specs.State.{State}
 use Rattle.model.specs.Names.{write-check, READ, WRITE, READ-IPL}
 use Rattle.model.specs.Rules.{firstOf}
-use Rattle.model.specs.Lent.{fetched, delivered, blockCount, blocksFrom, blocksInto}
+use Rattle.model.specs.Lent.{blockCount, blocksFrom, blocksInto}
+use Rattle.model.specs.Pieces.{pieces, bytesIn, fetched, scattered, delivered}
+use Rattle.model.specs.Decoded.{commandOf}
 use Rattle.model.specs.Parameters.{address, reads, writes}
 use Rattle.model.specs.Causes.{bytesRead, a-locate, transferRules, transferCauses, readIplCauses}
 use Rattle.model.specs.Log.{writtenCounted}
-use Rattle.model.specs.Safe.{Usable, CcwFits}
+use Rattle.model.specs.Safe.{Usable}
 use Rattle.model.specs.Commands.{Out, ended, decided, after, cleared, begun, readDone, read, writeDone, write, wholeDevice, iplDone, readIpl, performed}
 use Rattle.model.proofs.Verdicts.{first-later, first-none, failed-all}
 use Rattle.model.proofs.Read.{table-reads}
 use Rattle.model.proofs.Safety.{on-device}
 use Rattle.model.proofs.Lengths.{in-store}
+use Rattle.model.proofs.Fields.{begun-within}
 use Rattle.model.proofs.Steps.{performed-as}
 use Rattle.log.specs.Counts.{counted, withRead, withMovement}
 use Rattle.log.proofs.Counting.{read-counted, written-counted, movement-counted}
@@ -43,7 +46,7 @@ use Rattle.unit_state.specs.declared.Running.{Running}
 use Rattle.unit_state.specs.Standing.{wentOn, withExtent, stateOf, Sound, Handed}
 use Rattle.unit_state.proofs.Units.{went-on, with-extent, same-counts}
 use Rattle.endings.specs.declared.Ended.{Ended}
-use Rattle.endings.specs.Ending.{refusedEnd, Ends}
+use Rattle.endings.specs.Ending.{refusedEnd, Performs}
 use Rattle.endings.proofs.Ends.{refused-by, accepted-by}
 use Rattle.command_transfer.specs.declared.Move.{Move}
 use Rattle.command_transfer.specs.Transferred.{moveOf, readEnd, writtenBy, writeEnd, iplEnd}
@@ -71,38 +74,38 @@ placed dev s store h b =
     record { some = safe .located b .1 .some; from-first = safe .located b .1 .from-first; room = in-store dev store _ on; few = few; product = omega (arith, p, q) }
 
 -- a sound READ or WRITE: its table is that of a transfer, and what it does where that gives no cause
-pub record Transfer (follows : ℕ → Bool) (dev : Device) (c : Ccw) (s : Running) (main store : List ℕ) : Type 0 where
+pub record Transfer (follows : ℕ → Bool) (dev : Device) (chain : List ℕ) (c : Decoded) (s : Running) (main store : List ℕ) : Type 0 where
   pub sound : Sound dev s store
-  pub handed : Handed c main
+  pub handed : Handed chain c main
   pub does : State → Out
-  pub is : (t : State) → performed dev c t main store ≡ decided c t main store (firstOf (transferCauses follows t)) (does t)
+  pub is : (t : State) → performed dev (commandOf chain c) t main store ≡ decided (commandOf chain c) t main store (firstOf (transferCauses follows t)) (does t)
 
-module _ {dev : Device} {c : Ccw} {s : Running} {main store : List ℕ} where
-  pub reading : Sound dev s store × Handed c main × (c .command ≡ READ) → Transfer reads dev c s main store
-  reading h = record { sound = h .0; handed = h .1; does = λ t. read dev c (cleared t) main store; is = λ t. performed-as dev c t main store .read (h .2) }
+module _ {dev : Device} {chain : List ℕ} {c : Decoded} {s : Running} {main store : List ℕ} where
+  pub reading : Sound dev s store × Handed chain c main × (c .command ≡ READ) → Transfer reads dev chain c s main store
+  reading h = record { sound = h .0; handed = h .1; does = λ t. read dev (commandOf chain c) (cleared t) main store; is = λ t. performed-as dev (commandOf chain c) t main store .read (h .2) }
 
-  pub writing : Sound dev s store × Handed c main × (c .command ≡ WRITE) → Transfer writes dev c s main store
-  writing h = record { sound = h .0; handed = h .1; does = λ t. write dev c (cleared t) main store; is = λ t. performed-as dev c t main store .write (h .2) }
+  pub writing : Sound dev s store × Handed chain c main × (c .command ≡ WRITE) → Transfer writes dev chain c s main store
+  writing h = record { sound = h .0; handed = h .1; does = λ t. write dev (commandOf chain c) (cleared t) main store; is = λ t. performed-as dev (commandOf chain c) t main store .write (h .2) }
 
 -- one that both lines of its table let through
-pub record Passed (follows : ℕ → Bool) (dev : Device) (c : Ccw) (s : Running) (main store : List ℕ) : Type 0 where
-  pub transfer : Transfer follows dev c s main store
+pub record Passed (follows : ℕ → Bool) (dev : Device) (chain : List ℕ) (c : Decoded) (s : Running) (main store : List ℕ) : Type 0 where
+  pub transfer : Transfer follows dev chain c s main store
   pub located : a-locate (s .before) ≡ true
   pub allowed : follows (s .located .operation) ≡ true
 
 -- `f` is what the code asked, whether the command may follow the operation; w is the cause that it then found
-module _ {follows : ℕ → Bool} {dev : Device} {c : Ccw} {s : Running} {main store : List ℕ} (t : Transfer follows dev c s main store) {f : Bool} (located : f ≡ follows (s .located .operation))
+module _ {follows : ℕ → Bool} {dev : Device} {chain : List ℕ} {c : Decoded} {s : Running} {main store : List ℕ} (t : Transfer follows dev chain c s main store) {f : Bool} (located : f ≡ follows (s .located .operation))
     {w : ℕ} (found : w ≡ firstOf (transferRules (s .before) f)) where
   given : (u : Record) → firstOf (transferCauses follows (stateOf u s)) ≡ w
   unfolding transferCauses stateOf
   given u = rw (← located) (sym found)
 
-  pub transfer-refused : {u : Record} {r : Ended} → (w ≡ 0 → ⊥) → r ≡ refusedEnd c s w → Ends u c s r main store (performed dev c (stateOf u s) main store)
+  pub transfer-refused : {u : Record} {r : Ended} → (w ≡ 0 → ⊥) → r ≡ refusedEnd c s w → Performs dev u chain c s r main store main store
   unfolding transferCauses bytesRead oneOf pick
   transfer-refused {u} {r} n e =
-      refused-by u c s main store _ _ _ w r (t .is (stateOf u s)) e (given u) (ne-eqb _ _ n) (rw (given u) at (table-reads 0 (transferCauses follows (stateOf u s)) refl (rw (given u) (ne-eqb _ _ n))))
+      refused-by u chain c (t .handed .told) s main store _ _ _ w r (t .is (stateOf u s)) e (given u) (ne-eqb _ _ n) (rw (given u) at (table-reads 0 (transferCauses follows (stateOf u s)) refl (rw (given u) (ne-eqb _ _ n))))
 
-  pub passed : w ≡ 0 → Passed follows dev c s main store
+  pub passed : w ≡ 0 → Passed follows dev chain c s main store
   unfolding transferCauses stateOf
   passed z =
       let no = failed-all 0 (transferCauses follows (stateOf empty s)) refl (given empty ∙ z) in
@@ -110,23 +113,29 @@ module _ {follows : ℕ → Bool} {dev : Device} {c : Ccw} {s : Running} {main s
 
 -- no cause refuses it, and the code may move the blocks, and end
 
-no-cause : {follows : ℕ → Bool} {dev : Device} {c : Ccw} {s : Running} {main store : List ℕ} (u : Record) → Passed follows dev c s main store → firstOf (transferCauses follows (stateOf u s)) ≡ 0
+no-cause : {follows : ℕ → Bool} {dev : Device} {chain : List ℕ} {c : Decoded} {s : Running} {main store : List ℕ} (u : Record) → Passed follows dev chain c s main store → firstOf (transferCauses follows (stateOf u s)) ≡ 0
 unfolding transferCauses stateOf
 no-cause u p = first-later _ _ (ap not (p .located)) ∙ first-later _ _ (ap not (p .allowed)) ∙ first-none
 
-module _ {follows : ℕ → Bool} {dev : Device} {c : Ccw} {s : Running} {main store : List ℕ} (p : Passed follows dev c s main store) {m : Move} (e : m ≡ moveOf dev c s) where
-  pub move-asks : Movable dev store (m .block) (s .located .blocks) c main 0 (m .n)
+module _ {follows : ℕ → Bool} {dev : Device} {chain : List ℕ} {c : Decoded} {s : Running} {main store : List ℕ} (p : Passed follows dev chain c s main store) {m : Move} (e : m ≡ moveOf dev c s) where
+  pub move-asks : Movable dev store (m .block) (s .located .blocks) chain (c .area) main (m .n)
   move-asks =
       let sound = p .transfer .sound in
       let lies = placed dev s store sound (p .located) in
+      let h = p .transfer .handed in
       record {
         stored = record { device = sound .device; some = lies .some; inside = rw e (lies .room) };
         bytes = rw e (omega arith);
-        area = record { inside = rw e (omega (arith, p .transfer .handed .area .inside)) };
+        area = record { ccws = h .told .ccws; inside = h .inside; left = rw e (omega (arith, h .told .count)) };
       }
 
-  pub done-asks : Usable dev × CcwFits c × (m .n ≤ c .count)
-  done-asks = (p .transfer .sound .device, p .transfer .handed .ccw, rw e (omega arith))
+  -- no more blocks are begun than were located, and two bytes count those
+  pub done-asks : s .located .blocks < 65536 → Usable dev × (m .n ≤ 2097120) × (begun dev (m .n) < 65536)
+  done-asks few =
+      let usable = p .transfer .sound .device in
+      let n : ℕ = min (c .count) (s .located .blocks * dev .block) in
+      let within : begun dev n ≤ s .located .blocks = begun-within dev n (s .located .blocks) (usable .some-size) (omega arith) in
+      (usable, rw e (omega (arith, p .transfer .handed .told .few)), rw e (omega (arith, few, within)))
 
 -- the endings, as the definition has them
 
@@ -158,26 +167,28 @@ module _ (u : Record) (dev : Device) (s : Running) where
 
 -- a transfer is what its code moved, and its ending
 
-module _ {u : Record} {dev : Device} {c : Ccw} {s : Running} {main store : List ℕ} {r : Ended} {m : Move} where
-  pub read-ends : Passed reads dev c s main store → {main′ : List ℕ} → c .command ≡ READ → r ≡ readEnd dev c s m → m ≡ moveOf dev c s
-      → main′ ≡ delivered c main (take (m .n) (blocksFrom dev store (m .block) (s .located .blocks))) → Ends u c s r main′ store (performed dev c (stateOf u s) main store)
-  unfolding read cleared after stateOf
+module _ {u : Record} {dev : Device} {chain : List ℕ} {c : Decoded} {s : Running} {main store : List ℕ} {r : Ended} {m : Move} where
+  pub read-ends : Passed reads dev chain c s main store → {main′ : List ℕ} → c .command ≡ READ → r ≡ readEnd dev c s m → m ≡ moveOf dev c s
+      → main′ ≡ scattered (pieces (commandOf chain c)) main (take (m .n) (blocksFrom dev store (m .block) (s .located .blocks))) → Performs dev u chain c s r main store main′ store
+  unfolding read cleared after stateOf delivered
   read-ends p {main′} k e f d =
-      accepted-by u c s main store _ _ _ _ _ _ _ r main′ store (performed-as dev c (stateOf u s) main store .read k) (no-cause u p) (rw f at e) (rw k (sym (and-false (s .kept))))
-      (rw (read-state u dev s (moveOf dev c s .n) (moveOf dev c s .can), d, f) refl)
+      let told = p .transfer .handed .told in
+      accepted-by u chain c told s main store _ _ _ _ _ _ _ r main′ store (performed-as dev (commandOf chain c) (stateOf u s) main store .read k) (no-cause u p) (rw f at e) (rw k (sym (and-false (s .kept))))
+      (rw (read-state u dev s (moveOf dev c s .n) (moveOf dev c s .can), d, f, told .count) refl)
 
-  pub write-ends : Passed writes dev c s main store → {store′ : List ℕ} → c .command ≡ WRITE → r ≡ writeEnd dev c s m → m ≡ moveOf dev c s
-      → store′ ≡ blocksInto dev store (m .block) (s .located .blocks) (fetched c main (m .n)) → Ends u c s r main store′ (performed dev c (stateOf u s) main store)
-  unfolding write cleared after stateOf
+  pub write-ends : Passed writes dev chain c s main store → {store′ : List ℕ} → c .command ≡ WRITE → r ≡ writeEnd dev c s m → m ≡ moveOf dev c s
+      → store′ ≡ blocksInto dev store (m .block) (s .located .blocks) (take (m .n) (bytesIn (pieces (commandOf chain c)) main)) → Performs dev u chain c s r main store main store′
+  unfolding write cleared after stateOf fetched
   write-ends p {store′} k e f d =
-      accepted-by u c s main store _ _ _ _ _ _ _ r main store′ (performed-as dev c (stateOf u s) main store .write k) (no-cause u p) (rw f at e) (rw k (sym (and-false (s .kept))))
-      (rw (write-state u dev s (moveOf dev c s .n) (moveOf dev c s .can), d, f) refl)
+      let told = p .transfer .handed .told in
+      accepted-by u chain c told s main store _ _ _ _ _ _ _ r main store′ (performed-as dev (commandOf chain c) (stateOf u s) main store .write k) (no-cause u p) (rw f at e) (rw k (sym (and-false (s .kept))))
+      (rw (write-state u dev s (moveOf dev c s .n) (moveOf dev c s .can), d, f, told .count) refl)
 
-module _ (u : Record) (dev : Device) (c : Ccw) (s : Running) (main store : List ℕ) (r : Ended) where
+module _ (u : Record) (dev : Device) (chain : List ℕ) (c : Decoded) (s : Running) (main store : List ℕ) (r : Ended) (h : Handed chain c main) where
   pub ipl-ends : (n blocks : ℕ) (main′ : List ℕ) → c .command ≡ READ-IPL → firstOf (readIplCauses (stateOf u s)) ≡ 0 → r ≡ iplEnd dev c s n blocks → n ≡ min (c .count) (dev .block)
-      → blocks ≡ blockCount dev store → main′ ≡ delivered c main (take n (blocksFrom dev store 0 1)) → Ends u c s r main′ store (performed dev c (stateOf u s) main store)
-  unfolding readIpl
+      → blocks ≡ blockCount dev store → main′ ≡ scattered (pieces (commandOf chain c)) main (take n (blocksFrom dev store 0 1)) → Performs dev u chain c s r main store main′ store
+  unfolding readIpl delivered
   ipl-ends n blocks main′ k v e f b d =
-      accepted-by u c s main store _ _ _ (withExtent s (withMovement (withRead 1 (s .counts))) (wholeDevice (blockCount dev store)) ReadIpl) (min (c .count) (dev .block)) (dev .block) 1 r main′ store
-      (performed-as dev c (stateOf u s) main store .read-ipl k) v (rw (f, b) at e) (rw k (sym (and-false (s .kept))))
-      (rw (ipl-state u dev s (min (c .count) (dev .block)) (blockCount dev store), d, f) refl)
+      accepted-by u chain c (h .told) s main store _ _ _ (withExtent s (withMovement (withRead 1 (s .counts))) (wholeDevice (blockCount dev store)) ReadIpl) (min (c .count) (dev .block)) (dev .block) 1 r main′ store
+      (performed-as dev (commandOf chain c) (stateOf u s) main store .read-ipl k) v (rw (f, b) at e) (rw k (sym (and-false (s .kept))))
+      (rw (ipl-state u dev s (min (c .count) (dev .block)) (blockCount dev store), d, f, h .told .count) refl)

@@ -4,7 +4,7 @@
 -- Assumes nothing.
 use Prim.Native.Nat.{ℕ, min}
 use Rattle.numbers.specs.Choice.{_=?_, pick}
-use Rattle.model.specs.declared.ccw.Ccw.{Ccw}
+use Rattle.model.specs.declared.decoded.Decoded.{Decoded}
 use Rattle.model.specs.declared.device.Device.{Device}
 use Rattle.model.specs.declared.record.Counts.{Counts}
 use Rattle.model.specs.declared.state.Before.the-variants.{Other, ReadIpl}
@@ -17,22 +17,22 @@ use Rattle.endings.specs.declared.Ended.{Ended}
 use Rattle.endings.specs.Ending.{acceptedEnd}
 use Rattle.command_transfer.specs.declared.Move.{Move}
 
-abbrev pub moveOf : Device → Ccw → Running → Move
+abbrev pub moveOf : Device → Decoded → Running → Move
 moveOf dev c s = record {
   block = firstBlock (s .extent) (s .located);
   can = canMove dev (s .located);
   n = min (c .count) (canMove dev (s .located));
 }
 
-abbrev pub readEnd : Device → Ccw → Running → Move → Ended
+abbrev pub readEnd : Device → Decoded → Running → Move → Ended
 readEnd dev c s m = acceptedEnd c (wentOn s (withRead (begun dev (m .n)) (s .counts)) Other) (m .n) (m .can) (begun dev (m .n))
 
 -- the counts after a WRITE of so many blocks: those of a write and check are counted
 unfoldable pub writtenBy : ℕ → ℕ → Counts → Counts
 writtenBy operation blocks k = pick (operation =? write-check) (withWritten blocks k) k
 
-abbrev pub writeEnd : Device → Ccw → Running → Move → Ended
+abbrev pub writeEnd : Device → Decoded → Running → Move → Ended
 writeEnd dev c s m = acceptedEnd c (wentOn s (writtenBy (s .located .operation) (s .located .blocks) (s .counts)) Other) (m .n) (m .can) (begun dev (m .n))
 
-abbrev pub iplEnd : Device → Ccw → Running → ℕ → ℕ → Ended
+abbrev pub iplEnd : Device → Decoded → Running → ℕ → ℕ → Ended
 iplEnd dev c s n blocks = acceptedEnd c (withExtent s (withMovement (withRead 1 (s .counts))) (wholeDevice blocks) ReadIpl) n (dev .block) 1

@@ -9,7 +9,7 @@ use endings::refuse;
 use log::movement_counted;
 use log::read_counted;
 use log::written_counted;
-use model::ccw::Ccw;
+use model::decoded::Decoded;
 use model::device::Device;
 use model::extent::Displacement;
 use model::extent::Extent;
@@ -28,10 +28,10 @@ ghost use Rattle.model.specs.declared.record.Record.{Record};
 ghost use Rattle.model.specs.Names.{READ, WRITE, READ-IPL};
 ghost use Rattle.model.specs.Rules.{firstOf};
 ghost use Rattle.model.specs.Causes.{a-locate, none-or-ipl, transferRules};
-ghost use Rattle.model.specs.Commands.{wholeDevice, performed};
-ghost use Rattle.model.specs.Safe.{Usable, CcwFits};
-ghost use Rattle.unit_state.specs.Standing.{stateOf, Sound, Handed};
-ghost use Rattle.endings.specs.Ending.{Ends};
+ghost use Rattle.model.specs.Commands.{begun, wholeDevice};
+ghost use Rattle.model.specs.Safe.{Usable};
+ghost use Rattle.unit_state.specs.Standing.{Sound, Handed};
+ghost use Rattle.endings.specs.Ending.{Performs};
 ghost use Rattle.command_transfer.specs.Transferred.{moveOf, readEnd, writtenBy, writeEnd, iplEnd};
 
 // Directly before stood an accepted LOCATE.
@@ -80,13 +80,13 @@ pub struct Move {
 }
 
 // By the LOCATE before, the address rule and the count.
-fn located_move(d: Device, c: Ccw, s: Running, store: &[u8]) -> Move
+fn located_move(d: Device, c: Decoded, s: Running, store: &[u8]) -> Move
     requires { ⌜ Sound d s (now store) × (a-locate (s .before) ≡ true) ⌝ }
     ensures { λ r. ⌜ r ≡ moveOf d c s ⌝ }
 {
     let e = s.extent;
     let l = s.located;
-    let can = l.blocks * d.block;
+    let can = (l.blocks as usize) * d.block;
     Move {
         block: e.address(l.displacement) as usize,
         can: can,
@@ -94,8 +94,8 @@ fn located_move(d: Device, c: Ccw, s: Running, store: &[u8]) -> Move
     }
 }
 
-fn read_done(d: Device, c: Ccw, s: Running, m: Move) -> Ended
-    requires { ⌜ Usable d × CcwFits c × (m .n ≤ c .count) ⌝ }
+fn read_done(d: Device, c: Decoded, s: Running, m: Move) -> Ended
+    requires { ⌜ Usable d × (m .n ≤ 2097120) × (begun d (m .n) < 65536) ⌝ }
     ensures { λ r. ⌜ r ≡ readEnd d c s m ⌝ }
 {
     let blocks = begun(d, m.n);
@@ -103,9 +103,9 @@ fn read_done(d: Device, c: Ccw, s: Running, m: Move) -> Ended
     accept(c, t, m.n, m.can, blocks)
 }
 
-pub fn read(d: Device, c: Ccw, s: Running, main: &mut [u8], store: &[u8]) -> Ended
-    requires { ⌜ Sound d s (now store) × Handed c (now main) × (c .command ≡ READ) ⌝ }
-    ensures { λ r. ⌜ ((u : Record) → Ends u c s r (now (main .exit)) (now (store .entry)) (performed d c (stateOf u s) (now (main .entry)) (now (store .entry)))) ⌝ }
+pub fn read(d: Device, chain: &[u8], c: Decoded, s: Running, main: &mut [u8], store: &[u8]) -> Ended
+    requires { ⌜ Sound d s (now store) × Handed (now chain) c (now main) × (c .command ≡ READ) ⌝ }
+    ensures { λ r. ⌜ ((u : Record) → Performs d u (now (chain .entry)) c s r (now (main .entry)) (now (store .entry)) (now (main .exit)) (now (store .entry))) ⌝ }
 {
     let l = s.located;
     let cause = transfer_cause(s, operation::reads(l.operation));
@@ -113,7 +113,8 @@ pub fn read(d: Device, c: Ccw, s: Running, main: &mut [u8], store: &[u8]) -> End
         return refuse(c, s, cause);
     }
     let m = located_move(d, c, s, store);
-    read_blocks(d, store, m.block, l.blocks, c, main, m.n);
+    let blocks = l.blocks as usize;
+    read_blocks(d, store, m.block, blocks, chain, c.area, main, m.n);
     read_done(d, c, s, m)
 }
 
@@ -128,18 +129,26 @@ fn written(code: u32, blocks: usize, k: Counts) -> Counts
     k
 }
 
-fn write_done(d: Device, c: Ccw, s: Running, m: Move) -> Ended
-    requires { ⌜ Usable d × CcwFits c × (m .n ≤ c .count) × (s .located .blocks < 4294967296) ⌝ }
+fn write_done(d: Device, c: Decoded, s: Running, m: Move) -> Ended
+    requires { ⌜ Usable d × (m .n ≤ 2097120) × (begun d (m .n) < 65536) ⌝ }
     ensures { λ r. ⌜ r ≡ writeEnd d c s m ⌝ }
 {
     let l = s.located;
-    let t = after(s, written(l.operation, l.blocks, s.counts), Before::Other);
+    let blocks = l.blocks as usize;
+    let t = after(s, written(l.operation, blocks, s.counts), Before::Other);
     accept(c, t, m.n, m.can, begun(d, m.n))
 }
 
-pub fn write(d: Device, c: Ccw, s: Running, main: &[u8], store: &mut [u8]) -> Ended
-    requires { ⌜ Sound d s (now store) × Handed c (now main) × (c .command ≡ WRITE) ⌝ }
-    ensures { λ r. ⌜ ((u : Record) → Ends u c s r (now (main .entry)) (now (store .exit)) (performed d c (stateOf u s) (now (main .entry)) (now (store .entry)))) ⌝ }
+pub fn write(
+    d: Device,
+    chain: &[u8],
+    c: Decoded,
+    s: Running,
+    main: &[u8],
+    store: &mut [u8],
+) -> Ended
+    requires { ⌜ Sound d s (now store) × Handed (now chain) c (now main) × (c .command ≡ WRITE) ⌝ }
+    ensures { λ r. ⌜ ((u : Record) → Performs d u (now (chain .entry)) c s r (now (main .entry)) (now (store .entry)) (now (main .entry)) (now (store .exit))) ⌝ }
 {
     let l = s.located;
     let cause = transfer_cause(s, operation::writes(l.operation));
@@ -147,7 +156,8 @@ pub fn write(d: Device, c: Ccw, s: Running, main: &[u8], store: &mut [u8]) -> En
         return refuse(c, s, cause);
     }
     let m = located_move(d, c, s, store);
-    store_blocks(d, store, m.block, l.blocks, c, main, m.n);
+    let blocks = l.blocks as usize;
+    store_blocks(d, store, m.block, blocks, chain, c.area, main, m.n);
     write_done(d, c, s, m)
 }
 
@@ -164,8 +174,8 @@ fn whole_device(blocks: usize) -> Extent
     }
 }
 
-fn ipl_done(d: Device, c: Ccw, s: Running, n: usize, blocks: usize) -> Ended
-    requires { ⌜ CcwFits c × (n ≤ c .count) × (1 ≤ blocks) × (blocks ≤ 131072) ⌝ }
+fn ipl_done(d: Device, c: Decoded, s: Running, n: usize, blocks: usize) -> Ended
+    requires { ⌜ (1 ≤ blocks) × (blocks ≤ 131072) ⌝ }
     ensures { λ r. ⌜ r ≡ iplEnd d c s n blocks ⌝ }
 {
     let k = movement_counted(read_counted(1, s.counts));
@@ -173,15 +183,22 @@ fn ipl_done(d: Device, c: Ccw, s: Running, n: usize, blocks: usize) -> Ended
     accept(c, t, n, d.block, 1)
 }
 
-pub fn read_ipl(d: Device, c: Ccw, s: Running, main: &mut [u8], store: &[u8]) -> Ended
-    requires { ⌜ Sound d s (now store) × Handed c (now main) × (c .command ≡ READ-IPL) ⌝ }
-    ensures { λ r. ⌜ ((u : Record) → Ends u c s r (now (main .exit)) (now (store .entry)) (performed d c (stateOf u s) (now (main .entry)) (now (store .entry)))) ⌝ }
+pub fn read_ipl(
+    d: Device,
+    chain: &[u8],
+    c: Decoded,
+    s: Running,
+    main: &mut [u8],
+    store: &[u8],
+) -> Ended
+    requires { ⌜ Sound d s (now store) × Handed (now chain) c (now main) × (c .command ≡ READ-IPL) ⌝ }
+    ensures { λ r. ⌜ ((u : Record) → Performs d u (now (chain .entry)) c s r (now (main .entry)) (now (store .entry)) (now (main .exit)) (now (store .entry))) ⌝ }
 {
     let before = s.before;
     if !none_or_ipl(before) {
         return refuse(c, s, 40);
     }
     let n = least(c.count, d.block);
-    read_blocks(d, store, 0, 1, c, main, n);
+    read_blocks(d, store, 0, 1, chain, c.area, main, n);
     ipl_done(d, c, s, n, block_count(d, store))
 }

@@ -6,14 +6,14 @@ use mathlib.Core.Bool.{Bool, true, false}
 use mathlib.Core.List.{List, [], _∷_, _++_}
 use native.Mathlib.Omega.{arith}
 use Rattle.numbers.specs.Big.{bytes2, bytes4}
-use Rattle.model.specs.declared.ccw.Ccw.{Ccw}
+use Rattle.model.specs.Pieces.{Command}
 use Rattle.model.specs.declared.kind.Kind.{Kind}
 use Rattle.model.specs.declared.kind.Kind.the-variants.{Accepted, ProgramCheck, UnitCheck}
 use Rattle.model.specs.State.{Done}
 use Rattle.model.specs.Causes.{kindOf}
 use Rattle.model.specs.Answer.{unitStatus, channelBy, wrongLength, channelStatus, residual, answerOf}
 use Rattle.model.proofs.Leaving.{status-byte, channel-byte}
-use Rattle.endings.specs.Ending.{answerWords, answerBytes, marked, wrongBy}
+use Rattle.endings.specs.Ending.{answerWords, withResidual, answerBytes, marked, wrongBy}
 
 front-bytes : (u c r : ℕ) → u < 256 → c < 256 → r < 65536 → bytes4 ((u * 256 + c) * 65536 + r) ≡ (u ∷ c ∷ []) ++ bytes2 r
 front-bytes u c r hu hc hr =
@@ -34,25 +34,22 @@ back-bytes w b hw hb =
     rw (e₀, e₁, e₂, e₃)
 
 -- the channel's status is 00 before a wrong length is marked
-by-kind : (k : Kind) (c : Ccw) (can : ℕ) (rest : List ℕ) → marked (wrongBy k c can) (unitStatus k ∷ channelBy k false ∷ rest) ≡ unitStatus k ∷ channelBy k (wrongLength c can) ∷ rest
-by-kind Accepted c can rest = go (wrongLength c can)
-  where
-    go : (wrong : Bool) → marked wrong (unitStatus Accepted ∷ channelBy Accepted false ∷ rest) ≡ unitStatus Accepted ∷ channelBy Accepted wrong ∷ rest
-    go true = refl
-    go false = refl
-by-kind ProgramCheck c can rest = refl
-by-kind UnitCheck c can rest = refl
+by-kind : (k : Kind) (wrong : Bool) (rest : List ℕ) → marked (wrongBy k wrong) (unitStatus k ∷ channelBy k false ∷ rest) ≡ unitStatus k ∷ channelBy k wrong ∷ rest
+by-kind Accepted true rest = refl
+by-kind Accepted false rest = refl
+by-kind ProgramCheck wrong rest = refl
+by-kind UnitCheck wrong rest = refl
 
 words-bytes : (k : Kind) (left w b : ℕ) → left < 65536 → w < 256 → b < 65536
-    → answerBytes (answerWords k left w b) ≡ (unitStatus k ∷ channelBy k false ∷ []) ++ bytes2 left ++ ((w ∷ 0 ∷ []) ++ bytes2 b)
+    → answerBytes (withResidual (answerWords k w b) left) ≡ (unitStatus k ∷ channelBy k false ∷ []) ++ bytes2 left ++ ((w ∷ 0 ∷ []) ++ bytes2 b)
 words-bytes k left w b hl hw hb =
     ap (λ (x : List ℕ). x ++ bytes4 (w * 16777216 + b)) (front-bytes (unitStatus k) (channelBy k false) left (status-byte k) (channel-byte k false) hl)
     ∙ ap (λ (x : List ℕ). (unitStatus k ∷ channelBy k false ∷ []) ++ bytes2 left ++ x) (back-bytes w b hw hb)
 
-pub answer-bytes : (c : Ccw) (d : Done) → c .count < 65536 → d .cause < 256 → d .blocks < 65536
-    → marked (wrongBy (kindOf (d .cause)) c (d .can)) (answerBytes (answerWords (kindOf (d .cause)) (residual c d) (d .cause) (d .blocks))) ≡ answerOf c d
-unfolding answerOf channelStatus residual
+pub answer-bytes : (c : Command) (d : Done) → residual c d < 65536 → d .cause < 256 → d .blocks < 65536
+    → marked (wrongBy (kindOf (d .cause)) (wrongLength c (d .can))) (answerBytes (withResidual (answerWords (kindOf (d .cause)) (d .cause) (d .blocks)) (residual c d))) ≡ answerOf c d
+unfolding answerOf channelStatus
 answer-bytes c d hc hw hb =
     let k : Kind = kindOf (d .cause) in
-    ap (marked (wrongBy k c (d .can))) (words-bytes k (c .count - d .moved) (d .cause) (d .blocks) (omega arith) hw hb)
-    ∙ by-kind k c (d .can) (bytes2 (c .count - d .moved) ++ ((d .cause ∷ 0 ∷ []) ++ bytes2 (d .blocks)))
+    ap (marked (wrongBy k (wrongLength c (d .can)))) (words-bytes k (residual c d) (d .cause) (d .blocks) hc hw hb)
+    ∙ by-kind k (wrongLength c (d .can)) (bytes2 (residual c d) ++ ((d .cause ∷ 0 ∷ []) ++ bytes2 (d .blocks)))

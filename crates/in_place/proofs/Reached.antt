@@ -1,4 +1,4 @@
--- A call reaches at most 32 commands, and what it gave is the outcome. No contract cites this file.
+-- A call gives at most 32 answers, and what it gave is the outcome. No contract cites this file.
 use Prim.Native.Nat.{ℕ, _≤_}
 use mathlib.Core.Path.{_≡_, refl, ap}
 use mathlib.Core.Bool.{Bool, true, false}

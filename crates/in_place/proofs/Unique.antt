@@ -2,16 +2,25 @@
 --     same-by         a result that is named, `r ≡ f x`: most functions, and the call with every buffer in one record
 --     told-unique     a test that is true exactly where a fact holds
 --     ends-unique     a command's ending with the two storages, `Ends u c s r main store ..`
+--     next-unique, rest-unique          what is left of an area, behind a piece and behind some bytes
+--     decoded-unique                    the command that a CCW begins
 --     status-unique, channel-unique     a status that is known by its byte
 --     log-unique                        a log that is known by its bytes
 --     walks-unique, allowed-unique      the run of a chain, and of one that no cause refuses
 --     by-value-unique, in-place-unique         the run, by value and in place
 -- docs/PROOFS.md lists which function has which form. Assumes nothing.
-use Prim.Native.Nat.{ℕ}
+use Prim.Native.Nat.{ℕ, _+_, _-_}
 use mathlib.Core.Path.{_≡_, refl, sym, ap, _∙_}
 use mathlib.Core.Bool.{Bool, true, false}
-use mathlib.Core.List.{List}
-use Rattle.model.specs.declared.ccw.Ccw.{Ccw}
+use mathlib.Core.List.{List, _∷_}
+use lib.ListN.{length, getD, drop}
+use native.Mathlib.Omega.{arith}
+use Rattle.model.specs.declared.ccw.Piece.{Piece}
+use Rattle.model.specs.declared.decoded.Area.{Area}
+use Rattle.model.specs.declared.decoded.Decoded.{Decoded}
+use Rattle.model.specs.Pieces.{Command, pieces, commandsFrom, total, final}
+use Rattle.model.specs.Decoded.{laterOf, areaOf, commandOf, Stands, Decodes}
+use Rattle.storage.specs.Area.{Rest}
 use Rattle.model.specs.declared.record.Record.{Record}
 use Rattle.model.specs.declared.record.Counts.{Counts}
 use Rattle.model.specs.Log.{logOf}
@@ -26,8 +35,8 @@ use Rattle.unit_state.specs.declared.Running.{Running}
 use Rattle.endings.specs.declared.Ended.{Ended}
 use Rattle.endings.specs.Ending.{Ends}
 use Rattle.chain.specs.declared.run.Walked.{Walked}
-use Rattle.chain.specs.Walk.{systemLeft, Walks, Allowed}
-use Rattle.chain.proofs.Runs.{left-known}
+use Rattle.chain.specs.Walk.{systemLeft, ccwsOf, Walks, Allowed}
+use Rattle.chain.proofs.Runs.{left-known, length-pieces, command-ccws}
 use Rattle.model.specs.Lent.{newRecord}
 use Rattle.in_place.specs.declared.Ran.{Ran}
 use Rattle.in_place.specs.Run.{ByValue, InPlace}
@@ -41,23 +50,62 @@ told-unique P true false f g = sym (g .1 (f .0 refl))
 told-unique P false true f g = f .1 (g .0 refl)
 told-unique P false false f g = refl
 
--- the ending of a command: the state, the cause, its sense, the answer, the wrong length, and both storages
+-- the ending of a command: the state, the cause, its sense, the answer, the bytes moved, the wrong length, and both storages
 pub record SameEnding (d e : Ended) (main main′ store store′ : List ℕ) : Type 0 where
   pub ended : d ≡ e
   pub main-same : main ≡ main′
   pub store-same : store ≡ store′
 
-pub ends-unique : (o : Out) (u : Record) (c : Ccw) (s : Running) (d e : Ended) (main main′ store store′ : List ℕ) → Ends u c s d main store o → Ends u c s e main′ store′ o
+pub ends-unique : (o : Out) (u : Record) (c : Command) (s : Running) (d e : Ended) (main main′ store store′ : List ℕ) → Ends u c s d main store o → Ends u c s e main′ store′ o
     → SameEnding d e main main′ store store′
 ends-unique o u c s d e main main′ store store′ p q =
     let left = left-known u c s (d .left) o (p .left) ∙ sym (left-known u c s (e .left) o (q .left)) in
     let answer = p .answer ∙ sym (q .answer) in
+    let moved = p .moved ∙ sym (q .moved) in
     let wrong = p .wrong ∙ sym (q .wrong) in
     record {
-      ended = λ i. record { left = left i; answer = answer i; wrong = wrong i };
+      ended = λ i. record { left = left i; answer = answer i; moved = moved i; wrong = wrong i };
       main-same = p .main-same ∙ sym (q .main-same);
       store-same = p .store-same ∙ sym (q .store-same);
     }
+
+-- what is left of an area is known by its pieces, how many there are behind the first, and the CCW where it ends
+
+areas-same : (chain : List ℕ) (r t : Area) → areaOf chain r ≡ areaOf chain t → r .next ≡ t .next → r .end ≡ t .end → r ≡ t
+areas-same chain r t e f g =
+    let piece : r .piece ≡ t .piece = ap (λ (l : List Piece). getD l 0 (r .piece)) e in
+    λ i. record { piece = piece i; next = f i; end = g i }
+
+pub next-unique : (chain : List ℕ) (a r t : Area) → areaOf chain r ≡ laterOf chain a → areaOf chain t ≡ laterOf chain a → r .next ≡ a .next + 1 → t .next ≡ a .next + 1 → r .end ≡ a .end → t .end ≡ a .end → r ≡ t
+next-unique chain a r t p q f g x y = areas-same chain r t (p ∙ sym q) (f ∙ sym g) (x ∙ sym y)
+
+-- as many pieces behind the first, and one end: one beginning
+same-next : (chain : List ℕ) (r t : Area) → Stands chain r → Stands chain t → laterOf chain r ≡ laterOf chain t → r .end ≡ t .end → r .next ≡ t .next
+same-next chain r t s u e f =
+    let long = length-pieces chain (r .next) (r .end - r .next) in
+    let long′ = length-pieces chain (t .next) (t .end - t .next) in
+    omega (arith, ap length e, long, long′, s .order, u .order, f)
+
+pub rest-unique : (chain : List ℕ) (a : Area) (n : ℕ) (r t : Area) → Rest chain a n r → Rest chain a n t → r ≡ t
+rest-unique chain a n r t p q =
+    let e = p .pieces ∙ sym (q .pieces) in
+    let end = p .end ∙ sym (q .end) in
+    areas-same chain r t e (same-next chain r t (p .ccws) (q .ccws) (ap (drop 1) e) end) end
+
+pub decoded-unique : (chain : List ℕ) (at : ℕ) (c k : Decoded) → Decodes chain c → Decodes chain k
+    → commandsFrom chain (ccwsOf chain - at) at ≡ commandOf chain c ∷ commandsFrom chain (ccwsOf chain - c .area .end) (c .area .end)
+    → commandsFrom chain (ccwsOf chain - at) at ≡ commandOf chain k ∷ commandsFrom chain (ccwsOf chain - k .area .end) (k .area .end) → c ≡ k
+decoded-unique chain at c k told told′ p q =
+    let one : commandOf chain c ≡ commandOf chain k = ap (λ (l : List Command). getD l 0 (commandOf chain c)) (sym p ∙ q) in
+    let later : laterOf chain (c .area) ≡ laterOf chain (k .area) = ap (λ (d : Command). d .later) one in
+    let long = length-pieces chain (c .area .next) (c .area .end - c .area .next) in
+    let long′ = length-pieces chain (k .area .next) (k .area .end - k .area .next) in
+    let end : c .area .end ≡ k .area .end
+    = omega (arith, command-ccws chain at c p, command-ccws chain at k q, ap length later, long, long′, told .ccws .lent, told′ .ccws .lent) in
+    let area : c .area ≡ k .area = areas-same chain (c .area) (k .area) (ap pieces one) (same-next chain (c .area) (k .area) (told .ccws) (told′ .ccws) later end) end in
+    let count : c .count ≡ k .count = told .count ∙ ap total one ∙ sym (told′ .count) in
+    let flags : c .flags ≡ k .flags = told .flags ∙ ap (λ (d : Command). final d .flags) one ∙ sym (told′ .flags) in
+    λ i. record { area = area i; count = count i; command = one i .command; flags = flags i }
 
 pub status-unique : (n : ℕ) (a b : UnitStatus) → a .0 ≡ n → b .0 ≡ n → a ≡ b
 status-unique n a b p q = λ i. record { 0 = same-by (a .0) (b .0) n p q i }

@@ -10,6 +10,8 @@ use slices::least;
 use slices::put_at;
 ghost use mathlib.Core.Path.{_≡_};
 ghost use Prim.Native.Nat.{_<_};
+ghost use lib.ListN.{length};
+ghost use Rattle.model.specs.Names.{senseSize};
 ghost use Rattle.model.specs.declared.record.Record.{Record};
 ghost use Rattle.model.specs.Log.{added3, logOf};
 ghost use Rattle.log.specs.Counts.{counted, withRead, withWritten, withMovement, noCounts};
@@ -84,7 +86,8 @@ impl Log {
 
     // The log of these counts.
     pub fn of(k: Counts) -> Log
-        ensures { λ r. ⌜ ((u : Record) → r .0 ≡ logOf (counted u k)) ⌝ }
+        ensures shows { λ r. ⌜ ((u : Record) → r .0 ≡ logOf (counted u k)) ⌝ }
+        ensures long { λ r. ⌜ length (r .0) ≡ senseSize ⌝ }
     {
         let read = k.blocks_read;
         let written = k.blocks_written;

@@ -3,7 +3,7 @@
 --     SoundPlace
 --               what holds of a place throughout
 --     States    the states are equal but for the extent's offset
---     Mains     main storage is equal but for the offset's four bytes, and the parameters are still there
+--     Mains     main storage is equal but for the offset's four bytes, and the parameters lie in it and are still there
 --     Stores    the extent's blocks are equal, and no block outside it has changed
 --     Outs      all three, and the numbers of the answer
 -- Below them, that each is kept: by a record and a command before, by bytes put into main storage, by blocks written.
@@ -12,12 +12,13 @@ use Prim.Native.Nat.{ℕ, _+_, _-_, _*_, _≤_, _<_}
 use mathlib.Core.Path.{_≡_, refl, sym, ap, _∙_}
 use mathlib.Core.Logic.{_⊎_, inl, inr, ⊎-elim}
 use mathlib.Core.Bool.{true}
-use mathlib.Core.List.{List}
-use lib.ListN.{length, getD}
+use mathlib.Core.List.{List, [], _∷_}
+use lib.ListN.{length, getD, take, drop, length-take}
 use native.Mathlib.Omega.{arith}
+use Rattle.numbers.specs.Choice.{_<?_, pick}
 use Rattle.slices.specs.Parts.{part, put}
-use Rattle.slices.proofs.Laws.{length-put, get-part, get-before, get-in, get-after, by-place, part-same, part-apart}
-use Rattle.model.specs.declared.ccw.Ccw.{Ccw}
+use Rattle.model.specs.declared.ccw.Piece.{Piece}
+use Rattle.slices.proofs.Laws.{length-put, get-before, get-in, get-after, by-place, part-same}
 use Rattle.model.specs.declared.extent.Displacement.{Displacement}
 use Rattle.model.specs.declared.extent.Extent.{Extent}
 use Rattle.model.specs.declared.extent.Located.{Located}
@@ -25,22 +26,28 @@ use Rattle.model.specs.declared.record.Record.{Record}
 use Rattle.model.specs.declared.state.Before.{Before}
 use Rattle.model.specs.declared.device.Device.{Device}
 use Rattle.model.specs.State.{State, Done}
-use Rattle.model.specs.Lent.{fetched, blockCount, blockAt, blocksFrom, blocksInto}
+use Rattle.model.specs.Lent.{blockCount, blockAt, blocksFrom, blocksInto}
+use Rattle.model.specs.Pieces.{Command, total, bytesIn, fetched, scattered}
 use Rattle.model.specs.Parameters.{extentLength, extentIn, address}
 use Rattle.model.specs.Commands.{Out, after}
 use Rattle.model.specs.Safe.{InExtent}
-use Rattle.model.specs.Moved.{Among, SameBut, HasRoom, SameData, KeptOutside}
+use Rattle.model.specs.Safe.{Inside}
+use Rattle.model.specs.Moved.{placeOf, Among, Off, ParametersLie, ParametersApart, SameButOffset, HasRoom, SameData, KeptOutside}
+use Rattle.model.proofs.Pieces.{inside-same}
+use Rattle.model.proofs.Places.{parameter-at, parameters-same}
 use Rattle.model.proofs.Lengths.{blocks-into-length, in-store}
 use Rattle.model.proofs.Blocks.{blocks-from-same, block-kept, block-stored}
 
 -- a byte of the parameters that is none of the four
-pub parameter-same : (c : Ccw) (main main′ : List ℕ) → SameBut (c .address + 4) 4 main main′ → (i : ℕ) → i < extentLength → (Among 4 4 i → ⊥) → getD (fetched c main extentLength) i 0 ≡ getD (fetched c main′ extentLength) i 0
-unfolding fetched
-parameter-same c main main′ h i b n =
-    get-part main (c .address) extentLength i b ∙ h .same (c .address + i) (λ k. n (omega (arith, k), omega (arith, k))) ∙ sym (get-part main′ (c .address) extentLength i b)
+pub parameter-same : (c : Command) (main main′ : List ℕ) → SameButOffset c main main′ → ParametersLie c main → ParametersApart c → (i : ℕ) → i < extentLength → (Among 4 4 i → ⊥)
+    → getD (fetched c main extentLength) i 0 ≡ getD (fetched c main′ extentLength) i 0
+parameter-same c main main′ h lie apart i b n =
+    let lie′ : ParametersLie c main′ = λ k l. rw (← (h .long)) (lie k l) in
+    let other : (k : ℕ) → Among 4 4 k → placeOf c i ≡ placeOf c k → ⊥ = λ k a e. n (rw (apart i k b (omega (arith, a)) e) a) in
+    parameter-at c main i lie b ∙ ap (λ (x : ℕ). pick (i <? total c) x 0) (h .same (placeOf c i) other) ∙ sym (parameter-at c main′ i lie′ b)
 
 pub record Place : Type 0 where
-  pub at : ℕ
+  pub define : Command
   pub here : Extent
   pub there : Extent
   pub store : List ℕ
@@ -51,6 +58,7 @@ pub record SoundPlace (dev : Device) (F : Place) : Type 0 where
   pub mask : F .here .mask ≡ F .there .mask
   pub first : F .here .first ≡ F .there .first
   pub last : F .here .last ≡ F .there .last
+  pub apart : ParametersApart (F .define)
   pub sizes : length (F .store) ≡ length (F .store′)
   pub room : HasRoom dev (F .here) (F .store)
   pub room′ : HasRoom dev (F .there) (F .store′)
@@ -66,9 +74,10 @@ pub record States (F : Place) (s t : State) : Type 0 where
   pub set : s .defined ≡ true → (s .extent ≡ F .here) × (t .extent ≡ F .there)
 
 pub record Mains (F : Place) (m n : List ℕ) : Type 0 where
-  pub but : SameBut (F .at + 4) 4 m n
-  pub here : extentIn (part m (F .at) extentLength) ≡ F .here
-  pub there : extentIn (part n (F .at) extentLength) ≡ F .there
+  pub but : SameButOffset (F .define) m n
+  pub lie : ParametersLie (F .define) m
+  pub here : extentIn (fetched (F .define) m extentLength) ≡ F .here
+  pub there : extentIn (fetched (F .define) n extentLength) ≡ F .there
 
 pub record Stores (dev : Device) (F : Place) (x y : List ℕ) : Type 0 where
   pub long : length x ≡ length (F .store)
@@ -97,34 +106,54 @@ states-after F s t u v b d e f r = record { unit = e; defined = r .defined; befo
 
 -- main storage
 
--- a data area of some bytes that has none of the parameters' lies before them or behind
-pub sides : (a n p m : ℕ) → 0 < n → 0 < m → ((k : ℕ) → Among a n k → Among p m k → ⊥) → (a + n ≤ p) ⊎ (p + m ≤ a)
-sides a n p m h g none =
-    let Q : Type 0 = (a + n ≤ p) ⊎ (p + m ≤ a) in
-    by-place Q a p m
-    (λ l. by-place Q p a n (λ k. absurd (omega arith)) (λ j b e. absurd (none p (omega arith, omega arith) (omega arith, omega arith))) (λ k. inl k))
-    (λ j b e. absurd (none a (omega arith, omega arith) (omega arith, omega arith)))
-    (λ l. inr l)
+-- pieces apart from the parameters hold the same in both
+pub mains-gathered : (F : Place) (ps : List Piece) (m m′ : List ℕ) → ((k : ℕ) → k < extentLength → Off (placeOf (F .define) k) ps) → Mains F m m′ → bytesIn ps m ≡ bytesIn ps m′
+unfolding bytesIn
+mains-gathered F [] m m′ off g = refl
+mains-gathered F (p ∷ ps) m m′ off g =
+    let same : part m (p .address) (p .count) ≡ part m′ (p .address) (p .count)
+    = part-same m m′ (p .address) (p .count) (g .but .long) (λ i b. g .but .same (p .address + i) (λ k a e. off k (omega (arith, a)) .0 (omega (arith, e), omega (arith, e)))) in
+    rw (same, mains-gathered F ps m m′ (λ k b. off k b .1) g) refl
 
--- bytes apart from the parameters are the same in both
-pub mains-part : (F : Place) (m m′ : List ℕ) (a n : ℕ) → (a + n ≤ F .at) ⊎ (F .at + extentLength ≤ a) → Mains F m m′ → part m a n ≡ part m′ a n
-mains-part F m m′ a n d g = part-same m m′ a n (g .but .long) (λ i b. g .but .same (a + i) (λ k. ⊎-elim (λ x. omega (arith, k)) (λ x. omega (arith, k)) d))
+-- bytes put apart from the parameters leave them
+put-leaves : (F : Place) (m : List ℕ) (a : ℕ) (bytes : List ℕ) → a + length bytes ≤ length m → ((k : ℕ) → k < extentLength → Among a (length bytes) (placeOf (F .define) k) → ⊥) → ParametersLie (F .define) m
+    → fetched (F .define) (put m a bytes) extentLength ≡ fetched (F .define) m extentLength
+put-leaves F m a bytes h off lie =
+    let e = length-put m a bytes h in
+    parameters-same (F .define) (put m a bytes) m e (λ k b. rw e (lie k b)) (λ k b.
+    let at : ℕ = placeOf (F .define) k in
+    by-place (getD (put m a bytes) at 0 ≡ getD m at 0) at a (length bytes)
+    (λ l. get-before m a bytes at h l) (λ j l z. absurd (off k b (omega (arith, z), omega (arith, z)))) (λ l. get-after m a bytes at h l))
 
-pub mains-put : (F : Place) (m m′ : List ℕ) (a : ℕ) (bytes : List ℕ) → a + length bytes ≤ length m → (a + length bytes ≤ F .at) ⊎ (F .at + extentLength ≤ a) → Mains F m m′ → Mains F (put m a bytes) (put m′ a bytes)
-mains-put F m m′ a bytes h d g =
+mains-put : (F : Place) (m m′ : List ℕ) (a : ℕ) (bytes : List ℕ) → a + length bytes ≤ length m → ((k : ℕ) → k < extentLength → Among a (length bytes) (placeOf (F .define) k) → ⊥) → Mains F m m′ → Mains F (put m a bytes) (put m′ a bytes)
+mains-put F m m′ a bytes h off g =
     let h′ : a + length bytes ≤ length m′ = omega (arith, g .but .long) in
-    let apart : (F .at + extentLength ≤ a) ⊎ (a + length bytes ≤ F .at) = ⊎-elim inr inl d in
+    let lie′ : ParametersLie (F .define) m′ = λ k b. rw (← (g .but .long)) (g .lie k b) in
+    let e = length-put m a bytes h in
     record {
       but = record {
-        long = length-put m a bytes h ∙ g .but .long ∙ sym (length-put m′ a bytes h′);
+        long = e ∙ g .but .long ∙ sym (length-put m′ a bytes h′);
         same = λ i n. by-place (getD (put m a bytes) i 0 ≡ getD (put m′ a bytes) i 0) i a (length bytes)
             (λ k. get-before m a bytes i h k ∙ g .but .same i n ∙ sym (get-before m′ a bytes i h′ k))
-            (λ j k e. rw e (get-in m a bytes j h k ∙ sym (get-in m′ a bytes j h′ k)))
+            (λ j k z. rw z (get-in m a bytes j h k ∙ sym (get-in m′ a bytes j h′ k)))
             (λ k. get-after m a bytes i h k ∙ g .but .same i n ∙ sym (get-after m′ a bytes i h′ k));
       };
-      here = rw (part-apart m a bytes (F .at) extentLength h apart) (g .here);
-      there = rw (part-apart m′ a bytes (F .at) extentLength h′ apart) (g .there);
+      lie = λ k b. rw e (g .lie k b);
+      here = rw (put-leaves F m a bytes h off (g .lie)) (g .here);
+      there = rw (put-leaves F m′ a bytes h′ off lie′) (g .there);
     }
+
+-- bytes scattered to pieces apart from the parameters
+pub mains-scattered : (F : Place) (ps : List Piece) (m m′ bytes : List ℕ) → Inside ps m → ((k : ℕ) → k < extentLength → Off (placeOf (F .define) k) ps) → Mains F m m′ → Mains F (scattered ps m bytes) (scattered ps m′ bytes)
+unfolding scattered
+mains-scattered F [] m m′ bytes h off g = g
+mains-scattered F (p ∷ ps) m m′ bytes h off g =
+    let xs : List ℕ = take (p .count) bytes in
+    let few : length xs ≤ p .count = rw length-take (omega arith) in
+    let fits : p .address + length xs ≤ length m = omega (arith, few, h .0) in
+    let long = length-put m (p .address) xs fits in
+    mains-scattered F ps _ _ (drop (p .count) bytes) (inside-same ps m _ (sym long) (h .1)) (λ k b. off k b .1)
+    (mains-put F m m′ (p .address) xs fits (λ k b a. off k b .0 (omega (arith, a), omega (arith, a, few))) g)
 
 -- the store
 

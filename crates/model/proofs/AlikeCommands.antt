@@ -13,49 +13,46 @@ use lib.ListN.{length, take, length-take}
 use native.Mathlib.Omega.{arith}
 use borrow.Author.Tests.{eqb-true, ltb-false}
 use Rattle.slices.specs.Parts.{zeros}
-use Rattle.model.specs.declared.ccw.Ccw.{Ccw}
 use Rattle.model.specs.declared.record.Record.{Record}
 use Rattle.model.specs.declared.device.Device.{Device}
 use Rattle.model.specs.State.{State}
 use Rattle.model.specs.Names.{NO-OPERATION, DEFINE-EXTENT, LOCATE, READ, WRITE}
 use Rattle.numbers.specs.Choice.{_=?_}
 use Rattle.model.specs.Rules.{Rule, _when_, firstOf}
-use Rattle.model.specs.Lent.{fetched, delivered, blockCount, blocksFrom}
+use Rattle.model.specs.Lent.{blockCount, blocksFrom}
+use Rattle.model.specs.Pieces.{Command, pieces, total, fetched, delivered}
 use Rattle.model.specs.Parameters.{locateLength, locatedIn, address, reads, writes}
 use Rattle.model.specs.Causes.{channelCauses, unitCauses, extentCauses, defineExtentCauses, permissionCauses, locationCauses, locateCauses, readIplCauses, transferCauses, verdict, a-locate, kindOf}
 use Rattle.model.specs.Sense.{shown}
 use Rattle.model.specs.Log.{withSense, movementCounted, logOf, logReset}
 use Rattle.model.specs.Commands.{Out, senseGiven, after, extentSet, locateSet, noOperation, defineExtent, locate, sent, sense, senseType, readLog, begun, read, write, accepted, refusal, refused, cleared, seen, decided, step, defineDone, locateDone, readDone, writeDone}
-use Rattle.model.specs.Safe.{InExtent, Safe}
+use Rattle.model.specs.Safe.{Inside, InExtent, Safe}
 use Rattle.model.specs.Exactly.{absent}
 use Rattle.numbers.proofs.Choice.{pick-both}
-use Rattle.model.proofs.Verdicts.{never-given, failed-upto}
+use Rattle.model.proofs.Verdicts.{never-given}
 use Rattle.model.proofs.Leaving.{leaves-both}
 use Rattle.model.proofs.Steps.{Admitted, accepted-cases, past-channel, own-cases, accepted-as}
-use Rattle.model.proofs.Safety.{after-locate, locate-ok, safe-seen}
-use Rattle.model.proofs.Alike.{Place, SoundPlace, States, Mains, Stores, Outs, states-after, mains-put, stores-read, stores-write}
-use Rattle.model.proofs.AlikeVerdicts.{Fits, area, fetched-same, extent-here, extent-there, verdict-same}
+use Rattle.model.proofs.Safety.{after-locate, safe-seen}
+use Rattle.model.proofs.Alike.{Place, SoundPlace, States, Mains, Stores, Outs, states-after, mains-scattered, stores-read, stores-write}
+use Rattle.model.proofs.AlikeVerdicts.{Fits, fetched-same, extent-here, extent-there, verdict-same}
 
 -- a refused command
 
--- cause 39 alone shows parameters, and it is a LOCATE's, which has them
-locate-shows : (dev : Device) (c : Ccw) (s : State) (m x : List ℕ) → verdict dev c s m x ≡ 39 → (c .command ≡ LOCATE) × (locateLength ≤ c .count)
-unfolding channelCauses unitCauses extentCauses defineExtentCauses permissionCauses locationCauses locateCauses readIplCauses transferCauses
+-- cause 39 alone shows parameters, and it is a LOCATE's
+locate-shows : (dev : Device) (c : Command) (s : State) (m x : List ℕ) → verdict dev c s m x ≡ 39 → c .command ≡ LOCATE
+unfolding channelCauses unitCauses extentCauses defineExtentCauses readIplCauses transferCauses
 locate-shows dev c s m x e =
-    let Q : Type 0 = (c .command ≡ LOCATE) × (locateLength ≤ c .count) in
-    let elsewhere : (rs : List Rule) → absent 39 rs ≡ true → firstOf rs ≡ 39 → Q = λ rs a v. absurd (never-given 39 rs a (λ z. omega arith) v) in
-    own-cases dev c s m x (λ rs. firstOf rs ≡ 39 → Q)
-    (λ _. elsewhere _ refl)
-    (λ l v. (l, ltb-false _ _ (failed-upto 39 (30 when _ ∷ 31 when _ ∷ []) _ refl v .0 .1 .0)))
-    (λ _. elsewhere _ refl) (λ _. elsewhere _ refl) (λ _. elsewhere _ refl) (elsewhere [] refl)
+    let elsewhere : (rs : List Rule) → absent 39 rs ≡ true → firstOf rs ≡ 39 → c .command ≡ LOCATE = λ rs a v. absurd (never-given 39 rs a (λ z. omega arith) v) in
+    own-cases dev c s m x (λ rs. firstOf rs ≡ 39 → c .command ≡ LOCATE)
+    (λ _. elsewhere _ refl) (λ l _. l) (λ _. elsewhere _ refl) (λ _. elsewhere _ refl) (λ _. elsewhere _ refl) (elsewhere [] refl)
     (past-channel dev c s m x 39 refl e .1)
 
-module _ (dev : Device) (F : Place) (c : Ccw) (f : Fits F c) (s t : State) (r : States F s t) (m m′ : List ℕ) (g : Mains F m m′) (x x′ : List ℕ) (h : Stores dev F x x′) where
+module _ (dev : Device) (F : Place) (c : Command) (f : Fits F c) (s t : State) (r : States F s t) (m m′ : List ℕ) (g : Mains F m m′) (x x′ : List ℕ) (h : Stores dev F x x′) where
   shown-same : (w : ℕ) → verdict dev c s m x ≡ w → shown w (fetched c m locateLength) ≡ shown w (fetched c m′ locateLength)
   unfolding shown
   shown-same w e =
       pick-both _≡_ (w =? 39) _ _ _ _
-      (λ b. let l = locate-shows dev c s m x (e ∙ eqb-true _ _ b) in fetched-same F c m m′ f g locateLength (λ d. omega (arith, l .0)) (omega (arith, l .1)) (l .1))
+      (λ b. let l = locate-shows dev c s m x (e ∙ eqb-true _ _ b) in fetched-same F c m m′ f g locateLength (λ d. omega (arith, l)))
       (λ _. refl)
 
   refused-alike : (w : ℕ) → verdict dev c s m x ≡ w → Outs dev F (refused c s m x w) (refused c t m′ x′ w)
@@ -96,10 +93,10 @@ module _ (dev : Device) (F : Place) (c : Ccw) (f : Fits F c) (s t : State) (r : 
         stores = h;
       }
 
-  locate-alike : c .command ≡ LOCATE → locateLength ≤ c .count → Outs dev F (locate c s m x) (locate c t m′ x′)
+  locate-alike : c .command ≡ LOCATE → Outs dev F (locate c s m x) (locate c t m′ x′)
   unfolding locate locateDone locateSet
-  locate-alike e l =
-      let p = fetched-same F c m m′ f g locateLength (λ d. omega arith) (omega arith) l in
+  locate-alike e =
+      let p = fetched-same F c m m′ f g locateLength (λ d. omega arith) in
       record {
         dones = record {
           cause = refl;
@@ -122,19 +119,16 @@ module _ (dev : Device) (F : Place) (c : Ccw) (f : Fits F c) (s t : State) (r : 
       }
 
   -- bytes delivered to another command's data area
-  delivered-alike : (bytes bytes′ : List ℕ) (n : ℕ) → bytes ≡ bytes′ → (c .command ≡ DEFINE-EXTENT → ⊥) → 0 < c .count → c .address + c .count ≤ length m → n ≤ c .count
-      → Mains F (delivered c m (take n bytes)) (delivered c m′ (take n bytes′))
+  delivered-alike : (bytes bytes′ : List ℕ) (n : ℕ) → bytes ≡ bytes′ → (c .command ≡ DEFINE-EXTENT → ⊥) → Inside (pieces c) m → Mains F (delivered c m (take n bytes)) (delivered c m′ (take n bytes′))
   unfolding delivered
-  delivered-alike bytes bytes′ n e o z room l =
-      let few : length (take n bytes) ≤ c .count = rw length-take (omega arith) in
-      rw (← e) (mains-put F m m′ (c .address) (take n bytes) (omega arith) (area F c _ f o z few) g)
+  delivered-alike bytes bytes′ n e o room = rw (← e) (mains-scattered F (pieces c) m m′ (take n bytes) room (f .apart o) g)
 
   sent-alike : (can : ℕ) (bytes bytes′ : List ℕ) (u u′ : Record) → bytes ≡ bytes′ → u ≡ u′ → Admitted c m → (c .command ≡ DEFINE-EXTENT → ⊥) → (c .command ≡ NO-OPERATION → ⊥)
       → Outs dev F (sent c s m x can bytes u) (sent c t m′ x′ can bytes′ u′)
   unfolding sent
   sent-alike can bytes bytes′ u u′ b e a o n = record {
     dones = record { cause = refl; moved = refl; can = refl; blocks = refl; states = states-after F s t u u′ _ _ e refl r };
-    mains = delivered-alike bytes bytes′ (min (c .count) can) b o (a .some) (a .room n) (omega arith);
+    mains = delivered-alike bytes bytes′ (min (total c) can) b o (a .room n);
     stores = h;
   }
 
@@ -160,12 +154,12 @@ module _ (dev : Device) (F : Place) (c : Ccw) (f : Fits F c) (s t : State) (r : 
         record {
           dones = record {
             cause = refl;
-            moved = ap (min (c .count)) can;
+            moved = ap (min (total c)) can;
             can = can;
-            blocks = ap (λ (n : ℕ). begun dev (min (c .count) n)) can;
+            blocks = ap (λ (n : ℕ). begun dev (min (total c) n)) can;
             states = states-after F s t _ _ _ _ (rw (can, r .unit)) refl r;
           };
-          mains = rw (← can) (delivered-alike _ _ (min (c .count) (s .located .blocks * dev .block)) bytes (λ d. omega arith) (a .some) (a .room (λ z. omega arith)) (omega arith));
+          mains = rw (← can) (delivered-alike _ _ (min (total c) (s .located .blocks * dev .block)) bytes (λ d. omega arith) (a .room (λ z. omega arith)));
           stores = h;
         }
 
@@ -173,13 +167,13 @@ module _ (dev : Device) (F : Place) (c : Ccw) (f : Fits F c) (s t : State) (r : 
     unfolding write writeDone
     write-alike a e =
         let can : s .located .blocks * dev .block ≡ t .located .blocks * dev .block = rw (r .located) in
-        let bytes = fetched-same F c m m′ f g (min (c .count) (s .located .blocks * dev .block)) (λ d. omega arith) (a .some) (omega arith) in
+        let bytes = fetched-same F c m m′ f g (min (total c) (s .located .blocks * dev .block)) (λ d. omega arith) in
         record {
           dones = record {
             cause = refl;
-            moved = ap (min (c .count)) can;
+            moved = ap (min (total c)) can;
             can = can;
-            blocks = ap (λ (n : ℕ). begun dev (min (c .count) n)) can;
+            blocks = ap (λ (n : ℕ). begun dev (min (total c) n)) can;
             states = states-after F s t _ _ _ _ (rw (r .located, r .unit)) refl r;
           };
           mains = g;
@@ -188,11 +182,11 @@ module _ (dev : Device) (F : Place) (c : Ccw) (f : Fits F c) (s t : State) (r : 
 
 -- any command
 
-states-seen : (F : Place) (c : Ccw) (s t : State) → States F s t → States F (seen c s) (seen c t)
+states-seen : (F : Place) (c : Command) (s t : State) → States F s t → States F (seen c s) (seen c t)
 unfolding seen cleared after
 states-seen F c s t r = states-after F s t _ _ _ _ (rw (r .unit)) (r .before) r
 
-module _ (dev : Device) (F : Place) (k : SoundPlace dev F) (c : Ccw) (f : Fits F c) (s t : State) (r : States F s t) (m m′ : List ℕ) (g : Mains F m m′) (x x′ : List ℕ) (h : Stores dev F x x′)
+module _ (dev : Device) (F : Place) (k : SoundPlace dev F) (c : Command) (f : Fits F c) (s t : State) (r : States F s t) (m m′ : List ℕ) (g : Mains F m m′) (x x′ : List ℕ) (h : Stores dev F x x′)
     (w : Safe s (blockCount dev x)) where
   accepted-alike : verdict dev c s m x ≡ 0 → Outs dev F (accepted dev c (seen c s) m x) (accepted dev c (seen c t) m′ x′)
   unfolding seen after sense senseType readLog
@@ -209,7 +203,7 @@ module _ (dev : Device) (F : Place) (k : SoundPlace dev F) (c : Ccw) (f : Fits F
         refusal = λ n o e. absurd (o (sym e ∙ v));
         no-operation = λ e. rw (accepted-as dev c z m′ x′ .no-operation e) (no-operation-alike dev F c f y z q m m′ g x x′ h);
         define-extent = λ a e _. rw (accepted-as dev c z m′ x′ .define-extent e) (define-alike dev F c f y z q m m′ g x x′ h k e);
-        locate = λ a e l. rw (accepted-as dev c z m′ x′ .locate e) (locate-alike dev F c f y z q m m′ g x x′ h e (locate-ok c s _ l .long));
+        locate = λ a e l. rw (accepted-as dev c z m′ x′ .locate e) (locate-alike dev F c f y z q m m′ g x x′ h e);
         read = λ a e l. rw (accepted-as dev c z m′ x′ .read e) (read-alike dev F c f y z q m m′ g x x′ h k safe (after-locate reads s l) a e);
         write = λ a e l. rw (accepted-as dev c z m′ x′ .write e) (write-alike dev F c f y z q m m′ g x x′ h k safe (after-locate writes s l) a e);
         read-ipl = λ a e _. absurd (f .no-ipl e);

@@ -1,5 +1,5 @@
 -- Demand 3, the verdicts: in two runs that are alike a command is given one cause.
---     Fits            what the demand says of one CCW: it is the DEFINE EXTENT, or its data area lies apart from the parameters
+--     Fits            what the demand says of one command: it is the DEFINE EXTENT, or its pieces lie apart from the parameters
 --     fetched-same    the bytes that a command fetches from its data area are the same in both runs
 --     define-same, locate-same, transfer-same
 --                     the verdict of each command's own table is the same
@@ -10,58 +10,51 @@ use mathlib.Core.Path.{_≡_, refl, sym, ap, _∙_}
 use mathlib.Core.Logic.{_⊎_, inl, inr, ⊎-elim}
 use mathlib.Core.Bool.{Bool, true, not}
 use mathlib.Core.List.{List, [], _∷_, _++_}
-use lib.ListN.{getD}
+use lib.ListN.{getD, take}
 use native.Mathlib.Omega.{arith}
 use borrow.Author.Tests.{eqb-true, eqb-false, ltb-false, lt-ltb}
-use Rattle.model.specs.declared.ccw.Ccw.{Ccw}
 use Rattle.model.specs.declared.extent.Extent.{Extent}
 use Rattle.model.specs.declared.device.Device.{Device}
 use Rattle.model.specs.State.{State}
 use Rattle.model.specs.Names.{DEFINE-EXTENT, LOCATE, READ-IPL}
 use Rattle.numbers.specs.Choice.{_<?_}
 use Rattle.model.specs.Rules.{Rule, _when_, firstOf}
-use Rattle.model.specs.Lent.{fetched, blockCount}
+use Rattle.model.specs.Lent.{blockCount}
+use Rattle.model.specs.Pieces.{Command, pieces, total, fetched}
 use Rattle.model.specs.Parameters.{extentLength, extentIn, reservedIn, sizeIn, locateLength, address, outside, reads, writes}
 use Rattle.model.specs.Causes.{channelCauses, unitCauses, extentCauses, defineExtentCauses, permissionCauses, locationCauses, locateCauses, transferCauses, ownCauses, causesOf, verdict}
-use Rattle.model.specs.Moved.{Among}
-use Rattle.model.specs.Exactly.{Failed}
+use Rattle.model.specs.Moved.{placeOf, Off, ParametersApart}
 use Rattle.numbers.proofs.Choice.{pick-both}
 use Rattle.model.proofs.Verdicts.{first-same}
-use Rattle.model.proofs.Alike.{parameter-same, Place, SoundPlace, States, Mains, Stores, sides, mains-part, count-same}
+use Rattle.model.proofs.Alike.{parameter-same, Place, SoundPlace, States, Mains, Stores, mains-gathered, count-same}
 
-pub record Fits (F : Place) (c : Ccw) : Type 0 where
-  pub own : c .command ≡ DEFINE-EXTENT → c .address ≡ F .at
-  pub apart : (c .command ≡ DEFINE-EXTENT → ⊥) → (k : ℕ) → Among (c .address) (c .count) k → Among (F .at) extentLength k → ⊥
+pub record Fits (F : Place) (c : Command) : Type 0 where
+  pub own : c .command ≡ DEFINE-EXTENT → c ≡ F .define
+  pub apart : (c .command ≡ DEFINE-EXTENT → ⊥) → (k : ℕ) → k < extentLength → Off (placeOf (F .define) k) (pieces c)
   pub no-ipl : c .command ≡ READ-IPL → ⊥
 
--- the first n bytes of another command's data area lie on one side of the parameters
-pub area : (F : Place) (c : Ccw) (n : ℕ) → Fits F c → (c .command ≡ DEFINE-EXTENT → ⊥) → 0 < c .count → n ≤ c .count → (c .address + n ≤ F .at) ⊎ (F .at + extentLength ≤ c .address)
-area F c n f o z h = ⊎-elim (λ x. inl (omega arith)) inr (sides (c .address) (c .count) (F .at) extentLength z (omega arith) (f .apart o))
-
-module _ (F : Place) (c : Ccw) (m m′ : List ℕ) (f : Fits F c) (g : Mains F m m′) where
-  pub fetched-same : (n : ℕ) → (c .command ≡ DEFINE-EXTENT → ⊥) → 0 < c .count → n ≤ c .count → fetched c m n ≡ fetched c m′ n
+module _ (F : Place) (c : Command) (m m′ : List ℕ) (f : Fits F c) (g : Mains F m m′) where
+  pub fetched-same : (n : ℕ) → (c .command ≡ DEFINE-EXTENT → ⊥) → fetched c m n ≡ fetched c m′ n
   unfolding fetched
-  fetched-same n o z h = mains-part F m m′ (c .address) n (area F c n f o z h) g
+  fetched-same n o = ap (take n) (mains-gathered F (pieces c) m m′ (f .apart o) g)
 
   -- the parameters of the DEFINE EXTENT: the two extents, and the same bytes but for the offset
   pub extent-here : c .command ≡ DEFINE-EXTENT → extentIn (fetched c m extentLength) ≡ F .here
-  unfolding fetched
   extent-here e = rw (f .own e) (g .here)
 
   pub extent-there : c .command ≡ DEFINE-EXTENT → extentIn (fetched c m′ extentLength) ≡ F .there
-  unfolding fetched
   extent-there e = rw (f .own e) (g .there)
 
-  byte-same : c .command ≡ DEFINE-EXTENT → (i : ℕ) → i < 4 → getD (fetched c m extentLength) i 0 ≡ getD (fetched c m′ extentLength) i 0
-  byte-same e i b = parameter-same c m m′ (rw (f .own e) (g .but)) i (omega arith) (λ k. omega (arith, k))
+  byte-same : ParametersApart (F .define) → c .command ≡ DEFINE-EXTENT → (i : ℕ) → i < 4 → getD (fetched c m extentLength) i 0 ≡ getD (fetched c m′ extentLength) i 0
+  byte-same p e i b = rw (f .own e) (parameter-same (F .define) m m′ (g .but) (g .lie) p i (omega arith) (λ k. omega (arith, k)))
 
-  reserved-same : c .command ≡ DEFINE-EXTENT → reservedIn (fetched c m extentLength) ≡ reservedIn (fetched c m′ extentLength)
+  reserved-same : ParametersApart (F .define) → c .command ≡ DEFINE-EXTENT → reservedIn (fetched c m extentLength) ≡ reservedIn (fetched c m′ extentLength)
   unfolding reservedIn
-  reserved-same e = byte-same e 1 (omega arith)
+  reserved-same p e = byte-same p e 1 (omega arith)
 
-  dev-same : c .command ≡ DEFINE-EXTENT → sizeIn (fetched c m extentLength) ≡ sizeIn (fetched c m′ extentLength)
+  dev-same : ParametersApart (F .define) → c .command ≡ DEFINE-EXTENT → sizeIn (fetched c m extentLength) ≡ sizeIn (fetched c m′ extentLength)
   unfolding sizeIn
-  dev-same e = rw (byte-same e 2 (omega arith), byte-same e 3 (omega arith))
+  dev-same p e = rw (byte-same p e 2 (omega arith), byte-same p e 3 (omega arith))
 
 -- each command's own table
 
@@ -75,7 +68,7 @@ extent-same : (dev : Device) (n : ℕ) (p p′ : List ℕ) (e e′ : Extent) →
 unfolding extentCauses
 extent-same dev n p p′ e e′ a b mask first last reserved sizes in-here in-there = rw (a, b, in-here, in-there, mask, first, last, reserved, sizes)
 
-module _ (dev : Device) (F : Place) (k : SoundPlace dev F) (c : Ccw) (f : Fits F c) (s t : State) (r : States F s t) (m m′ : List ℕ) (g : Mains F m m′) where
+module _ (dev : Device) (F : Place) (k : SoundPlace dev F) (c : Command) (f : Fits F c) (s t : State) (r : States F s t) (m m′ : List ℕ) (g : Mains F m m′) where
   define-same : (n : ℕ) → c .command ≡ DEFINE-EXTENT → n ≡ blockCount dev (F .store)
       → defineExtentCauses dev n c s (fetched c m extentLength) ≡ defineExtentCauses dev n c t (fetched c m′ extentLength)
   unfolding defineExtentCauses
@@ -83,19 +76,15 @@ module _ (dev : Device) (F : Place) (k : SoundPlace dev F) (c : Ccw) (f : Fits F
       let here = last-inside (F .here) n (rw w (k .room)) in
       let there = last-inside (F .there) n (rw (w, count-same dev (F .store) (F .store′) (k .sizes)) (k .room′)) in
       let x = extent-same dev n _ _ (F .here) (F .there) (extent-here F c m m′ f g e) (extent-there F c m m′ f g e) (k .mask) (k .first) (k .last)
-      (reserved-same F c m m′ f g e) (dev-same F c m m′ f g e) here there in
+      (reserved-same F c m m′ f g (k .apart) e) (dev-same F c m m′ f g (k .apart) e) here there in
       rw (r .defined, x)
 
   locate-states : (p : List ℕ) → locateCauses c s p ≡ locateCauses c t p
   unfolding locateCauses locationCauses permissionCauses outside
   locate-states p = rw (r .defined, r .mask, r .first, r .last, r .unit)
 
-  locate-same : c .command ≡ LOCATE → 0 < c .count → firstOf (locateCauses c s (fetched c m locateLength)) ≡ firstOf (locateCauses c t (fetched c m′ locateLength))
-  unfolding locateCauses
-  locate-same e z =
-      ap firstOf (locate-states (fetched c m locateLength))
-      ∙ first-same (30 when not (t .defined) ∷ 31 when (c .count <? locateLength) ∷ []) _ _
-      (λ w. ap (λ (p : List ℕ). firstOf (locationCauses t p)) (fetched-same F c m m′ f g locateLength (λ d. omega arith) z (ltb-false _ _ (w .1 .0))))
+  locate-same : c .command ≡ LOCATE → locateCauses c s (fetched c m locateLength) ≡ locateCauses c t (fetched c m′ locateLength)
+  locate-same e = locate-states (fetched c m locateLength) ∙ ap (locateCauses c t) (fetched-same F c m m′ f g locateLength (λ d. omega arith))
 
   transfer-same : (follows : ℕ → Bool) → transferCauses follows s ≡ transferCauses follows t
   unfolding transferCauses
@@ -103,31 +92,27 @@ module _ (dev : Device) (F : Place) (k : SoundPlace dev F) (c : Ccw) (f : Fits F
 
 -- all the lines that can apply to a command
 
-channel-same : (F : Place) (c : Ccw) (m m′ : List ℕ) → Mains F m m′ → channelCauses c m ≡ channelCauses c m′
+channel-same : (F : Place) (c : Command) (m m′ : List ℕ) → Mains F m m′ → channelCauses c m ≡ channelCauses c m′
 unfolding channelCauses
 channel-same F c m m′ g = rw (g .but .long)
 
-unit-same : (F : Place) (c : Ccw) (s t : State) → States F s t → unitCauses c s ≡ unitCauses c t
+unit-same : (F : Place) (c : Command) (s t : State) → States F s t → unitCauses c s ≡ unitCauses c t
 unfolding unitCauses
 unit-same F c s t r = rw (r .unit)
 
-some-count : (c : Ccw) (s : State) (m : List ℕ) → Failed (channelCauses c m ++ unitCauses c s) → 0 < c .count
-unfolding channelCauses unitCauses
-some-count c s m w = let none = eqb-false (c .count) 0 (w .1 .1 .0) in omega (arith, none)
-
-module _ (dev : Device) (F : Place) (k : SoundPlace dev F) (c : Ccw) (f : Fits F c) (s t : State) (r : States F s t) (m m′ : List ℕ) (g : Mains F m m′) (x x′ : List ℕ) (h : Stores dev F x x′) where
-  own-same : 0 < c .count → firstOf (ownCauses dev c s m x) ≡ firstOf (ownCauses dev c t m′ x′)
+module _ (dev : Device) (F : Place) (k : SoundPlace dev F) (c : Command) (f : Fits F c) (s t : State) (r : States F s t) (m m′ : List ℕ) (g : Mains F m m′) (x x′ : List ℕ) (h : Stores dev F x x′) where
+  own-same : firstOf (ownCauses dev c s m x) ≡ firstOf (ownCauses dev c t m′ x′)
   unfolding ownCauses
-  own-same z =
+  own-same =
       let Q : List Rule → List Rule → Type 0 = λ a b. firstOf a ≡ firstOf b in
       let n : blockCount dev x ≡ blockCount dev (F .store) = count-same dev x (F .store) (h .long) in
       let n′ : blockCount dev x′ ≡ blockCount dev (F .store) = count-same dev x′ (F .store) (h .long′ ∙ sym (k .sizes)) in
       pick-both Q _ _ _ _ _ (λ b. rw (n, n′) (ap firstOf (define-same dev F k c f s t r m m′ g _ (eqb-true _ _ b) refl))) (λ _.
-      pick-both Q _ _ _ _ _ (λ b. locate-same dev F k c f s t r m m′ g (eqb-true _ _ b) z) (λ _.
+      pick-both Q _ _ _ _ _ (λ b. ap firstOf (locate-same dev F k c f s t r m m′ g (eqb-true _ _ b))) (λ _.
       pick-both Q _ _ _ _ _ (λ b. absurd (f .no-ipl (eqb-true _ _ b))) (λ _.
       pick-both Q _ _ _ _ _ (λ _. ap firstOf (transfer-same dev F k c f s t r m m′ g reads)) (λ _.
       pick-both Q _ _ _ _ _ (λ _. ap firstOf (transfer-same dev F k c f s t r m m′ g writes)) (λ _. refl)))))
 
   pub verdict-same : verdict dev c s m x ≡ verdict dev c t m′ x′
   unfolding verdict causesOf
-  verdict-same = rw (← (channel-same F c m m′ g), ← (unit-same F c s t r)) (first-same (channelCauses c m ++ unitCauses c s) _ _ (λ w. own-same (some-count c s m w)))
+  verdict-same = rw (← (channel-same F c m m′ g), ← (unit-same F c s t r)) (first-same (channelCauses c m ++ unitCauses c s) _ _ (λ w. own-same))

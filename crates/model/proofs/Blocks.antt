@@ -1,57 +1,20 @@
--- Blocks in a row are one part of the store; blocks that are stored in turn, one by one.
---     blocks-from-part   what READ sees of n blocks
---     take-blocks-more, blocks-into-last
---                        one block more, of those that READ sees and of those that WRITE leaves
+-- Blocks in a row, as READ sees them and as WRITE stores them.
 --     blocks-from-same   blocks that are equal one by one are equal in a row
 --     block-stored, block-kept
 --                        a block that WRITE stores, and one that it does not reach
 -- No contract cites this file. Assumes nothing.
 use Prim.Native.Nat.{ℕ, zero, suc, _+_, _*_, _≤_, _<_}
-use mathlib.Core.Path.{_≡_, refl, sym, _∙_}
+use mathlib.Core.Path.{_≡_, refl, _∙_}
 use mathlib.Core.Logic.{_⊎_, inl, inr}
-use mathlib.Core.List.{List, _++_}
-use lib.ListN.{length, take, drop}
-use lib.Seq.{take-take, take-add, drop-drop}
-use native.Mathlib.Nat.{add-assoc, add-zero, suc-add, zero-mul, mul-le-mul-right}
+use mathlib.Core.List.{List}
+use lib.ListN.{length, drop}
+use lib.Seq.{drop-drop}
+use native.Mathlib.Nat.{add-assoc, add-zero, zero-mul, mul-le-mul-right}
 use native.Mathlib.Omega.{arith}
-use Rattle.slices.specs.Parts.{part, put, pad}
-use Rattle.slices.proofs.Laws.{part-apart, part-put, length-put, length-pad, part-nil, part-more}
+use Rattle.slices.specs.Parts.{put, pad}
+use Rattle.slices.proofs.Laws.{part-apart, part-put, length-put, length-pad}
 use Rattle.model.specs.Lent.{blockStart, blockAt, blocksFrom, blocksInto}
 use Rattle.model.specs.declared.device.Device.{Device}
-
-pub blocks-from-part : (dev : Device) (store : List ℕ) (block n : ℕ) → blocksFrom dev store block n ≡ part store (block * dev .block) (n * dev .block)
-unfolding blocksFrom blockAt blockStart
-blocks-from-part dev store block zero = rw zero-mul (sym (part-nil store (block * dev .block)))
-blocks-from-part dev store block (suc n) =
-    let e : (block + 1) * dev .block ≡ block * dev .block + dev .block = omega arith in
-    let f : suc n * dev .block ≡ dev .block + n * dev .block = omega arith in
-    rw (f, part-more, blocks-from-part dev store (block + 1) n, e)
-
--- one block after another, as they are read and stored
-
--- k bytes of block i, after those of the blocks before it
-part-take-more : (l : List ℕ) (at m x k n : ℕ) → x + k ≤ m → k ≤ n → take (x + k) (part l at m) ≡ take x (part l at m) ++ take k (part l (at + x) n)
-unfolding part
-part-take-more l at m x k n h g =
-    rw (take-take (x + k) m (drop at l) h, take-take x m (drop at l) (omega arith), take-take k n (drop (at + x) l) g, ← (drop-drop x at l)) (take-add x k (drop at l))
-
-pub take-blocks-more : (dev : Device) (store : List ℕ) (block n i k : ℕ) → k ≤ dev .block → i * dev .block + k ≤ n * dev .block
-    → take (i * dev .block + k) (blocksFrom dev store block n) ≡ take (i * dev .block) (blocksFrom dev store block n) ++ take k (blockAt dev store (block + i))
-unfolding blockAt blockStart
-take-blocks-more dev store block n i k h m =
-    let e : (block + i) * dev .block ≡ block * dev .block + i * dev .block = omega arith in
-    rw (blocks-from-part dev store block n, e) (part-take-more store (block * dev .block) (n * dev .block) (i * dev .block) k (dev .block) m h)
-
-pub blocks-into-last : (dev : Device) (store : List ℕ) (block i : ℕ) (bytes : List ℕ)
-    → blocksInto dev store block (i + 1) bytes ≡ put (blocksInto dev store block i bytes) (blockStart dev (block + i)) (pad (dev .block) (drop (i * dev .block) bytes))
-unfolding blocksInto
-blocks-into-last dev store block zero bytes = rw (add-zero block, zero-mul) refl
-blocks-into-last dev store block (suc i) bytes =
-    let e : suc i * dev .block ≡ dev .block + i * dev .block = omega arith in
-    let f : block + suc i ≡ block + 1 + i = omega arith in
-    rw (suc-add, e, f, ← drop-drop) (blocks-into-last dev _ (block + 1) i (drop (dev .block) bytes))
-
--- whole blocks
 
 pub blocks-from-same : (dev : Device) (store store′ : List ℕ) (block block′ n : ℕ) → ((i : ℕ) → i < n → blockAt dev store (block + i) ≡ blockAt dev store′ (block′ + i))
     → blocksFrom dev store block n ≡ blocksFrom dev store′ block′ n

@@ -13,7 +13,8 @@ use lib.ListN.{length, getD, drop, replicate}
 use Rattle.model.specs.Names.{NO-OPERATION, DEFINE-EXTENT, LOCATE, READ, WRITE, READ-IPL, SENSE, SENSE-TYPE, format, write-data, read-data, read-replicated}
 use Rattle.numbers.specs.Choice.{pick}
 use Rattle.model.specs.Rules.{Rule, firstOf}
-use Rattle.model.specs.Lent.{ccwAt, newRecord}
+use Rattle.model.specs.Lent.{newRecord}
+use Rattle.model.specs.Pieces.{commandAt}
 use Rattle.model.specs.Causes.{callCauses, hostCauses, causesOf}
 use Rattle.model.specs.Chain.{System, system, start, classA}
 use Rattle.model.specs.Host.{hostCall}
@@ -40,7 +41,7 @@ pub record Corner : Type 0 where
 abbrev tableAt : ℕ → Lent → List Rule
 tableAt i l =
     let f : System = found classA (l .chain) i (system (start (l .unit)) (l .main) (l .store) (l .answers) 0) in
-    causesOf classA (ccwAt (l .chain) i) (f .state) (f .main) (f .store)
+    causesOf classA (commandAt (l .chain) i) (f .state) (f .main) (f .store)
 
 abbrev got : Corner → List ℕ
 got c = causeOf (c .at) (theUnit (c .input)) ∷ held (tableAt (c .at) (c .input))
@@ -48,10 +49,10 @@ got c = causeOf (c .at) (theUnit (c .input)) ∷ held (tableAt (c .at) (c .input
 abbrev wanted : Corner → List ℕ
 wanted c = first (c .hold) ∷ c .hold
 
--- one CCW on 24 bytes of main storage, to a unit that is ready (1) or not (0)
+-- one command on 24 bytes of main storage, to a unit that is ready (1) or not (0)
 abbrev alone : ℕ → List ℕ → List ℕ → Corner
 alone ready c hold = record {
-  input = record { chain = c; main = replicate 24 0; store = device 1; unit = newRecord ready 0; answers = replicate 8 0 };
+  input = record { chain = c; main = replicate 24 0; store = device 1; unit = newRecord ready 0; answers = replicate 16 0 };
   at = 0;
   hold = hold;
 }
@@ -85,12 +86,18 @@ located readOnly mask l hold = at 1 (defining ++ locating 0x00) readOnly (masked
 abbrev pub lines : List Corner
 lines =
     -- any command
-    alone 0 (ccw 0x08 99 0x80 0) (13 ∷ 10 ∷ 11 ∷ 12 ∷ 44 ∷ 43 ∷ [])
-    ∷ alone 0 (ccw 0x07 99 0x80 0) (10 ∷ 11 ∷ 12 ∷ 44 ∷ 43 ∷ [])
+    alone 0 (ccw 0x08 99 0x10 0) (13 ∷ 10 ∷ 11 ∷ 12 ∷ 44 ∷ 43 ∷ [])
+    ∷ alone 0 (ccw 0x07 99 0x10 0) (10 ∷ 11 ∷ 12 ∷ 44 ∷ 43 ∷ [])
     ∷ alone 0 (ccw 0x07 99 0x00 0) (11 ∷ 12 ∷ 44 ∷ 43 ∷ [])
     ∷ alone 0 (ccw 0x07 1 0x00 24) (12 ∷ 44 ∷ 43 ∷ [])
     ∷ alone 0 (ccw 0x07 0 0x00 24) (44 ∷ 43 ∷ [])
     ∷ alone 1 (ccw 0x07 0 0x00 24) (43 ∷ [])
+    -- piece by piece: all tests of a piece before those of the next; the byte of a later piece is not looked at
+    ∷ alone 0 (ccw 0x07 1 0x80 24 ++ ccw 0x07 0 0x10 0) (12 ∷ 44 ∷ 43 ∷ [])
+    ∷ alone 0 (ccw 0x07 0 0x80 24 ++ ccw 0x08 99 0x10 0) (10 ∷ 11 ∷ 12 ∷ 44 ∷ 43 ∷ [])
+    ∷ alone 0 (ccw 0x07 0 0x80 24 ++ ccw 0x08 99 0x00 0) (11 ∷ 12 ∷ 44 ∷ 43 ∷ [])
+    ∷ alone 0 (ccw 0x07 0 0x80 24 ++ ccw 0x08 1 0x00 24) (12 ∷ 44 ∷ 43 ∷ [])
+    ∷ alone 1 (ccw SENSE 0 0x80 20 ++ ccw 0x08 0 0x00 4) []
     -- 12 is not tested for NO-OPERATION; 44 is not given to SENSE and SENSE TYPE
     ∷ alone 1 (ccw NO-OPERATION 99 0x00 24) []
     ∷ alone 0 (ccw NO-OPERATION 0 0x00 1) (44 ∷ [])
@@ -100,6 +107,9 @@ lines =
     ∷ at 1 (defining ++ ccw DEFINE-EXTENT 16 0x00 15) 0 (extent 0 0 3) ((0x88 ∷ 0 ∷ 0 ∷ 7 ∷ []) ++ drop 4 (extent 4 1 0)) (20 ∷ 21 ∷ 22 ∷ 23 ∷ 24 ∷ 25 ∷ 26 ∷ [])
     ∷ at 1 (defining ++ ccw DEFINE-EXTENT 16 0x00 16) 0 (extent 0 0 3) ((0x88 ∷ 0 ∷ 0 ∷ 7 ∷ []) ++ drop 4 (extent 4 1 0)) (21 ∷ 22 ∷ 23 ∷ 24 ∷ 25 ∷ 26 ∷ [])
     ∷ at 1 (ccw READ-IPL 16 0x60 1 ++ ccw DEFINE-EXTENT 0 0x00 16) 0 (extent 0 0 3) (0 ∷ []) (21 ∷ [])
+    -- 20 goes by the sum
+    ∷ at 0 (ccw DEFINE-EXTENT 0 0x80 8 ++ ccw 0 8 0x00 7) 0 (extent 0 0 3) [] (20 ∷ [])
+    ∷ at 0 (ccw DEFINE-EXTENT 0 0x80 8 ++ ccw 0 8 0x00 8) 0 (extent 0 0 3) [] []
     -- and its sixteen bytes
     ∷ defined ((0x88 ∷ 0 ∷ 0 ∷ 7 ∷ []) ++ drop 4 (extent 4 1 0)) (22 ∷ 23 ∷ 24 ∷ 25 ∷ 26 ∷ [])
     ∷ defined ((0x08 ∷ 0 ∷ 0 ∷ 7 ∷ []) ++ drop 4 (extent 4 1 0)) (23 ∷ 24 ∷ 25 ∷ 26 ∷ [])
@@ -108,8 +118,8 @@ lines =
     ∷ defined (extent 4 0 0) (26 ∷ [])
     ∷ defined (extent 3 0 0) []
     -- LOCATE with no extent, then with too few bytes
-    ∷ at 0 (ccw LOCATE 16 0x00 7) 0 (extent 0 0 3) (location 0x87 0 0 9) (30 ∷ 31 ∷ 32 ∷ 33 ∷ 34 ∷ 36 ∷ [])
-    ∷ at 1 (defining ++ ccw LOCATE 16 0x00 7) 0 (extent 0 0 3) (location 0x87 0 0 9) (31 ∷ 32 ∷ 33 ∷ 34 ∷ 36 ∷ [])
+    ∷ at 0 (ccw LOCATE 16 0x00 7) 0 (extent 0 0 3) (location 0x87 0 0 0x9000000) (30 ∷ 31 ∷ 32 ∷ 33 ∷ 34 ∷ 36 ∷ [])
+    ∷ at 1 (defining ++ ccw LOCATE 16 0x00 7) 0 (extent 0 0 3) (location 0x87 0 0 0x9000000) (31 ∷ 32 ∷ 33 ∷ 34 ∷ 36 ∷ [])
     -- and its eight bytes: an operation that is none, a replicated read
     ∷ located 0 0xC0 (location 0x87 0 0 9) (32 ∷ 33 ∷ 34 ∷ 36 ∷ [])
     ∷ located 0 0xC0 (location 0x07 0 0 9) (33 ∷ 34 ∷ 36 ∷ [])
@@ -170,6 +180,8 @@ calls large =
     ∷ call chained large (device 1) [] [] (3 ∷ 4 ∷ 5 ∷ 6 ∷ [])
     ∷ call chained [] (device 1) [] [] (4 ∷ 5 ∷ 6 ∷ [])
     ∷ call chained [] (device 1) [] (replicate 8 0) (5 ∷ 6 ∷ [])
+    ∷ call (ccw NO-OPERATION 0 0x80 1) [] (device 1) [] (replicate 8 0) (5 ∷ 6 ∷ [])
+    ∷ call (ccw NO-OPERATION 0 0x40 1 ++ ccw NO-OPERATION 0 0xA0 1) [] (device 1) [] (replicate 16 0) (5 ∷ 6 ∷ [])
     ∷ call one-command [] (device 1) [] (replicate 8 0) (6 ∷ [])
     ∷ []
 

@@ -1,5 +1,5 @@
--- Demand 1, of endings: every chain ends, and how many commands it reaches.
---     call-reached   where the call's cause is 0, from one command to as many as the chain has CCWs; else none
+-- Demand 1, of endings: every chain ends, and how many answers it gives.
+--     call-reached   where the call's cause is 0, from one answer to as many as the chain has CCWs; else none
 -- Assumes nothing.
 use Prim.Native.Nat.{ℕ, zero, suc, _+_, _*_, _/_, _%_, _≤_, min}
 use mathlib.Core.Path.{_≡_, refl}
@@ -12,10 +12,13 @@ use Rattle.model.specs.declared.device.Device.{Device}
 use Rattle.model.specs.Rules.{firstOf}
 use Rattle.model.specs.Lent.{ccwSize, blockCount}
 use Rattle.model.specs.Causes.{callCauses}
-use Rattle.model.specs.Chain.{System, system, next, run, start, callOf}
+use Rattle.model.specs.Pieces.{commandsIn}
+use Rattle.model.specs.Answer.{answered}
+use Rattle.model.specs.Chain.{System, system, stepAt, next, run, start, callOf}
 use Rattle.numbers.proofs.Choice.{pick-ind}
 use Rattle.numbers.proofs.Joined.{either-false}
 use Rattle.model.proofs.Verdicts.{failed-all}
+use Rattle.model.proofs.Pieces.{ccwsLeft, all-left, some-commands, next-left}
 
 -- what a call is known to have where its cause is 0
 pub record Callable (dev : Device) (chain main store answers : List ℕ) : Type 0 where
@@ -50,16 +53,18 @@ callable dev chain main store answers e =
       answered = ltb-false _ _ (f .1 .1 .1 .0);
     }
 
--- a run of n commands at most reaches one of them, where there is one, and no more than n
-pub run-reached : (dev : Device) (chain : List ℕ) (n i : ℕ) (y : System) → y .reached ≡ i → (i + min 1 n ≤ run dev chain n i y .reached) × (run dev chain n i y .reached ≤ i + n)
-unfolding run next
-run-reached dev chain zero i y e = (omega arith, omega arith)
-run-reached dev chain (suc n) i y e =
-    pick-ind (λ (z : System). (i + min 1 (suc n) ≤ z .reached) × (z .reached ≤ i + suc n)) _ _ _
+-- a run of the n commands from i on gives an answer, where there is one of them, and no more than they have CCWs
+pub run-reached : (dev : Device) (chain : List ℕ) (n i : ℕ) (y : System) → i + n ≤ length (commandsIn chain)
+    → (y .reached + min 1 n ≤ run dev chain n i y .reached) × (run dev chain n i y .reached ≤ y .reached + ccwsLeft chain i)
+unfolding run next answered
+run-reached dev chain zero i y h = (omega arith, omega arith)
+run-reached dev chain (suc n) i y h =
+    let few = next-left chain i (stepAt dev chain i y .done) (omega arith) in
+    pick-ind (λ (z : System). (y .reached + min 1 (suc n) ≤ z .reached) × (z .reached ≤ y .reached + ccwsLeft chain i)) _ _ _
     (λ _.
-    let r = run-reached dev chain n (i + 1) (next dev chain i y) refl in
-    (omega (arith, r .0), omega (arith, r .1)))
-    (λ _. (omega arith, omega arith))
+    let r = run-reached dev chain n (i + 1) (next dev chain i y) (omega arith) in
+    (omega (arith, r .0), omega (arith, r .1, few)))
+    (λ _. (omega arith, omega (arith, few)))
 
 pub call-reached : (dev : Device) (chain main store : List ℕ) (u : Record) (answers : List ℕ)
     → (callOf dev chain main store u answers .cause ≡ 0 → 1 ≤ callOf dev chain main store u answers .reached)
@@ -67,9 +72,10 @@ pub call-reached : (dev : Device) (chain main store : List ℕ) (u : Record) (an
 unfolding callOf
 call-reached dev chain main store u answers =
     let w : ℕ = firstOf (callCauses dev chain main store answers) in
-    let n : ℕ = length chain / ccwSize in
+    let n : ℕ = length (commandsIn chain) in
     let y : System = system (start u) main store answers 0 in
-    let r = run-reached dev chain n 0 y refl in
-    pick-ind (λ (z : System). (w ≡ 0 → 1 ≤ z .reached) × (z .reached ≤ n)) _ _ _
-    (λ b. (λ e. let p = callable dev chain main store answers e .some in omega (arith, r .0, p), omega (arith, r .1)))
+    let r = run-reached dev chain n 0 y (omega arith) in
+    let all = all-left chain in
+    pick-ind (λ (z : System). (w ≡ 0 → 1 ≤ z .reached) × (z .reached ≤ length chain / ccwSize)) _ _ _
+    (λ b. (λ e. let p = some-commands chain (callable dev chain main store answers e .some) in omega (arith, r .0, p), omega (arith, r .1, all)))
     (λ b. (λ e. absurd (eqb-false _ _ b e), omega arith))

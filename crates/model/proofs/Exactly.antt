@@ -10,12 +10,12 @@ use mathlib.Core.Bool.{true}
 use mathlib.Core.List.{List, _++_}
 use native.Mathlib.Omega.{arith}
 use borrow.Author.Tests.{eqb-true}
-use Rattle.model.specs.declared.ccw.Ccw.{Ccw}
 use Rattle.model.specs.declared.record.Record.{Record}
 use Rattle.model.specs.declared.device.Device.{Device}
 use Rattle.model.specs.State.{State}
 use Rattle.model.specs.Rules.{Rule, firstOf}
 use Rattle.model.specs.Lent.{recordOf}
+use Rattle.model.specs.Pieces.{Command}
 use Rattle.model.specs.Causes.{callCauses, hostCauses, channelCauses, unitCauses, extentCauses, defineExtentCauses, permissionCauses, locationCauses, locateCauses, readIplCauses, transferCauses, causesOf, verdict}
 use Rattle.model.specs.Commands.{step}
 use Rattle.model.specs.Chain.{Called, callOf}
@@ -29,7 +29,7 @@ use Rattle.model.proofs.Hosts.{host-passed, result-reads}
 
 -- a command
 
-module _ (dev : Device) (c : Ccw) (s : State) (main store : List ℕ) where
+module _ (dev : Device) (c : Command) (s : State) (main store : List ℕ) where
   command-once : once (causesOf dev c s main store) ≡ true
   unfolding causesOf channelCauses unitCauses defineExtentCauses extentCauses locateCauses locationCauses permissionCauses readIplCauses transferCauses
   command-once =

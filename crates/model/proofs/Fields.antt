@@ -14,17 +14,17 @@ use native.Mathlib.Omega.{arith}
 use borrow.Author.Tests.{eqb-true, ltb-true, ltb-false}
 use Rattle.numbers.specs.Bytes.{AreBytes}
 use Rattle.numbers.proofs.Bytes.{bytes-nil, bytes-cons, bytes-append, bytes-take, bytes-drop, bytes-tested}
-use Rattle.numbers.proofs.Big.{bytes2-are, bytes3-are}
+use Rattle.numbers.proofs.Big.{bytes2-are, bytes3-are, be2-fits}
 use Rattle.slices.specs.Parts.{zeros}
 use Rattle.slices.proofs.Laws.{length-zeros, length-part, length-put-is, bytes-zeros, bytes-part, bytes-put, bytes-pad}
-use Rattle.model.specs.declared.ccw.Ccw.{Ccw}
 use Rattle.model.specs.declared.record.Record.{Record}
 use Rattle.model.specs.declared.device.Device.{Device}
 use Rattle.model.specs.State.{State}
 use Rattle.numbers.specs.Choice.{_<?_}
 use Rattle.model.specs.Rules.{Rule, firstOf}
-use Rattle.model.specs.Lent.{fetched, delivered, blockAt, blocksFrom, blocksInto}
-use Rattle.model.specs.Parameters.{locateLength}
+use Rattle.model.specs.Lent.{blockAt, blocksFrom, blocksInto}
+use Rattle.model.specs.Pieces.{Command, pieces, total, fetched, delivered}
+use Rattle.model.specs.Parameters.{locateLength, locatedIn}
 use Rattle.model.specs.Causes.{channelCauses, unitCauses, extentCauses, defineExtentCauses, permissionCauses, locationCauses, locateCauses, readIplCauses, transferCauses, ownCauses, causesOf, verdict, kindOf}
 use Rattle.model.specs.Sense.{CauseRow, senseTable, rowIn, shown, senseOf}
 use Rattle.model.specs.Log.{withSense, withCounts, added3, added2, readCounted, writtenCounted, movementCounted, logOf, logReset}
@@ -32,6 +32,7 @@ use Rattle.model.specs.Commands.{Out, senseGiven, noOperation, defineExt
 use Rattle.model.specs.Exactly.{absent}
 use Rattle.numbers.proofs.Choice.{pick-ind}
 use Rattle.numbers.proofs.Joined.{both-true}
+use Rattle.model.proofs.Pieces.{length-fetched, bytes-gathered, bytes-scattered}
 use Rattle.model.proofs.Verdicts.{peel, never-given, every, every-first, every-all}
 use Rattle.model.proofs.Safety.{define-ok, locate-ok}
 use Rattle.model.proofs.Read.{verdict-read}
@@ -122,19 +123,19 @@ shown-sized : (w : ℕ) (p : List ℕ) → (w ≡ 39 → length p ≡ locateLeng
 unfolding shown
 shown-sized w p h b = pick-ind (Sized locateLength) _ _ _ (λ t. record { long = h (eqb-true _ _ t); bytes = b }) (λ _. sized-zeros locateLength)
 
-located-long : (c : Ccw) (s : State) (p : List ℕ) → firstOf (locateCauses c s p) ≡ 39 → locateLength ≤ c .count
+located-long : (c : Command) (s : State) (p : List ℕ) → firstOf (locateCauses c s p) ≡ 39 → locateLength ≤ total c
 unfolding locateCauses locationCauses permissionCauses firstOf
 located-long c s p e = ltb-false _ _ (peel _ _ _ 39 (λ z. omega arith) (peel _ _ _ 39 (λ z. omega arith) e .1) .0)
 
 -- where the verdict is 39 the command is a LOCATE whose eight bytes were there
-located-bytes : (dev : Device) (c : Ccw) (s : State) (main store : List ℕ) → verdict dev c s main store ≡ 39 → length (fetched c main locateLength) ≡ 8
+located-bytes : (dev : Device) (c : Command) (s : State) (main store : List ℕ) → verdict dev c s main store ≡ 39 → length (fetched c main locateLength) ≡ 8
 unfolding channelCauses unitCauses defineExtentCauses extentCauses readIplCauses transferCauses fetched
 located-bytes dev c s main store e =
     let p = past-channel dev c s main store 39 refl e in
     let P : List Rule → Type 0 = λ rs. firstOf rs ≡ 39 → length (fetched c main locateLength) ≡ 8 in
     let other : (rs : List Rule) → absent 39 rs ≡ true → P rs = λ rs a g. absurd (never-given 39 rs a (λ z. omega arith) g) in
     own-cases dev c s main store P (λ _. other _ refl)
-    (λ x g. length-part main (c .address) 8 (omega (arith, located-long c s _ g, p .0 .room (λ z. omega arith))))
+    (λ x g. length-fetched c main 8 (p .0 .room (λ z. omega arith)) (located-long c s _ g))
     (λ _. other _ refl) (λ _. other _ refl) (λ _. other _ refl) (other [] refl) (p .1)
 
 -- the causes are bytes too
@@ -142,7 +143,7 @@ located-bytes dev c s main store e =
 below-256 : (w : ℕ) → w <? 256 ≡ true → w < 256
 below-256 w e = ltb-true _ _ e
 
-pub verdict-small : (dev : Device) (c : Ccw) (s : State) (main store : List ℕ) → verdict dev c s main store < 256
+pub verdict-small : (dev : Device) (c : Command) (s : State) (main store : List ℕ) → verdict dev c s main store < 256
 unfolding verdict causesOf channelCauses unitCauses defineExtentCauses extentCauses locateCauses locationCauses permissionCauses readIplCauses transferCauses
 verdict-small dev c s main store =
     let all : (rs : List Rule) → every (λ (w : ℕ). w <? 256) rs ≡ true → firstOf rs < 256 = λ rs e. every-all (λ (w : ℕ). w < 256) _ below-256 rs e (omega arith) in
@@ -162,12 +163,11 @@ blocks-into-bytes dev store block zero bytes b d = b
 blocks-into-bytes dev store block (suc n) bytes b d =
     blocks-into-bytes dev _ (block + 1) n _ (bytes-put store _ _ b (bytes-pad (dev .block) bytes d)) (bytes-drop (dev .block) bytes d)
 
--- a block that is begun has a byte, so there are no more of them than bytes
-pub begun-least : (dev : Device) (n : ℕ) → 1 ≤ dev .block → begun dev n ≤ n
+-- bytes that k blocks hold begin no more than k
+pub begun-within : (dev : Device) (n k : ℕ) → 1 ≤ dev .block → n ≤ k * dev .block → begun dev n ≤ k
 unfolding begun
-begun-least dev n h =
-    let e : n * 1 ≤ n * dev .block = mul-le-mul-left n h in
-    let l : (n + (dev .block - 1)) / dev .block < n + 1 = div-lt-iff-lt-mul h .1 (omega (arith, e)) in
+begun-within dev n k h e =
+    let l : (n + (dev .block - 1)) / dev .block < k + 1 = div-lt-iff-lt-mul h .1 (omega (arith, e)) in
     omega (arith, l)
 
 log-bytes : (u : Record) → IsRecord u → AreBytes (logOf u)
@@ -178,15 +178,16 @@ log-bytes u r =
 
 -- one command
 
-pub record Fields (c : Ccw) (o : Out) : Type 0 where
+pub record Fields (c : Command) (o : Out) : Type 0 where
   pub unit-fields : IsRecord (o .done .state .unit)
   pub main-bytes : AreBytes (o .main)
   pub store-bytes : AreBytes (o .store)
   pub cause-byte : o .done .cause < 256
-  pub moved-fits : o .done .moved ≤ c .count
-  pub blocks-fit : o .done .blocks ≤ c .count
+  pub moved-fits : o .done .moved ≤ total c
+  pub blocks-fit : o .done .blocks < 65536
+  pub located-fits : o .done .state .located .blocks < 65536
 
-module _ (dev : Device) (c : Ccw) (s : State) (main store : List ℕ) (h : 1 ≤ dev .block) (r : IsRecord (s .unit)) (m : AreBytes main) (d : AreBytes store) where
+module _ (dev : Device) (c : Command) (s : State) (main store : List ℕ) (h : 1 ≤ dev .block) (r : IsRecord (s .unit)) (m : AreBytes main) (d : AreBytes store) (l : s .located .blocks < 65536) where
   seen-record : IsRecord (seen c s .unit)
   unfolding seen cleared after
   seen-record = pick-ind IsRecord _ _ _ (λ _. r) (λ _. sense-record (s .unit) (zeros 24) (sized-zeros 24) r)
@@ -195,9 +196,10 @@ module _ (dev : Device) (c : Ccw) (s : State) (main store : List ℕ) (h : 1 ≤
   unfolding refused after fetched
   refused-fields w e = record {
     unit-fields =
-        let p = shown-sized w (fetched c main locateLength) (λ z. located-bytes dev c s main store (e ∙ z)) (bytes-part main _ _ m) in
+        let p = shown-sized w (fetched c main locateLength) (λ z. located-bytes dev c s main store (e ∙ z)) (bytes-take locateLength _ (bytes-gathered (pieces c) main m)) in
         leaves-ind (λ (t : State). IsRecord (t .unit)) (kindOf w) s (senseGiven w c main) r r
         (sense-record (s .unit) _ (record { long = sense-length w _ (p .long); bytes = sense-bytes w _ (p .bytes) }) r);
+    located-fits = leaves-ind (λ (t : State). t .located .blocks < 65536) (kindOf w) s (senseGiven w c main) l l l;
     main-bytes = m;
     store-bytes = d;
     cause-byte = rw (← e) (verdict-small dev c s main store);
@@ -207,48 +209,52 @@ module _ (dev : Device) (c : Ccw) (s : State) (main store : List ℕ) (h : 1 ≤
 
   -- a command that moves bytes into its data area, and no block
   sent-fields : (n : ℕ) (bytes : List ℕ) (u : Record) → AreBytes bytes → IsRecord u → Fields c (sent c (seen c s) main store n bytes u)
-  unfolding sent after delivered
+  unfolding sent seen after delivered
   sent-fields n bytes u b k = record {
     unit-fields = k;
-    main-bytes = bytes-put main _ _ m (bytes-take (min (c .count) n) bytes b);
+    main-bytes = bytes-scattered (pieces c) main _ m (bytes-take (min (total c) n) bytes b);
     store-bytes = d;
     cause-byte = omega arith;
     moved-fits = omega arith;
     blocks-fit = omega arith;
+    located-fits = l;
   }
 
   fields-cases : Cases dev c s main store (Fields c)
-  unfolding noOperation defineExtent defineDone locate locateDone sense senseType readLog read readDone write writeDone readIpl iplDone seen after extentSet locateSet fetched delivered
+  unfolding noOperation defineExtent defineDone locate locateDone sense senseType readLog read readDone write writeDone readIpl iplDone seen after extentSet locateSet fetched delivered locatedIn
   fields-cases =
       let k = seen-record in
       record {
         refusal = λ w _ e. refused-fields w e;
-        no-operation = λ _. record { unit-fields = k; main-bytes = m; store-bytes = d; cause-byte = omega arith; moved-fits = omega arith; blocks-fit = omega arith };
-        define-extent = λ _ _ f. record { unit-fields = k; main-bytes = m; store-bytes = d; cause-byte = omega arith; moved-fits = define-ok dev _ c s _ f .long; blocks-fit = omega arith };
-        locate = λ _ _ f. record { unit-fields = movement-counted-record _ k; main-bytes = m; store-bytes = d; cause-byte = omega arith; moved-fits = locate-ok c s _ f .long; blocks-fit = omega arith };
+        no-operation = λ _. record { unit-fields = k; main-bytes = m; store-bytes = d; cause-byte = omega arith; moved-fits = omega arith; blocks-fit = omega arith; located-fits = l };
+        define-extent = λ _ _ f. record { unit-fields = k; main-bytes = m; store-bytes = d; cause-byte = omega arith; moved-fits = define-ok dev _ c s _ f .long; blocks-fit = omega arith; located-fits = l };
+        locate = λ _ _ f. record { unit-fields = movement-counted-record _ k; main-bytes = m; store-bytes = d; cause-byte = omega arith; moved-fits = locate-ok c s _ f .long; blocks-fit = omega arith; located-fits = be2-fits _ 2 (bytes-take locateLength _ (bytes-gathered (pieces c) main m)) };
         read = λ _ _ _. record {
           unit-fields = read-counted-record _ _ k;
-          main-bytes = bytes-put main _ _ m (bytes-take (min (c .count) (s .located .blocks * dev .block)) _ (blocks-from-bytes dev store _ _ d));
+          main-bytes = bytes-scattered (pieces c) main _ m (bytes-take (min (total c) (s .located .blocks * dev .block)) _ (blocks-from-bytes dev store _ _ d));
           store-bytes = d;
           cause-byte = omega arith;
           moved-fits = omega arith;
-          blocks-fit = omega (arith, begun-least dev (min (c .count) (s .located .blocks * dev .block)) h);
+          blocks-fit = omega (arith, l, begun-within dev (min (total c) (s .located .blocks * dev .block)) (s .located .blocks) h (omega arith));
+          located-fits = l;
         };
         write = λ _ _ _. record {
           unit-fields = pick-ind IsRecord _ _ _ (λ _. written-counted-record _ _ k) (λ _. k);
           main-bytes = m;
-          store-bytes = blocks-into-bytes dev store _ _ _ d (bytes-part main _ _ m);
+          store-bytes = blocks-into-bytes dev store _ _ _ d (bytes-take (min (total c) (s .located .blocks * dev .block)) _ (bytes-gathered (pieces c) main m));
           cause-byte = omega arith;
           moved-fits = omega arith;
-          blocks-fit = omega (arith, begun-least dev (min (c .count) (s .located .blocks * dev .block)) h);
+          blocks-fit = omega (arith, l, begun-within dev (min (total c) (s .located .blocks * dev .block)) (s .located .blocks) h (omega arith));
+          located-fits = l;
         };
         read-ipl = λ a _ _. record {
           unit-fields = movement-counted-record _ (read-counted-record 1 _ k);
-          main-bytes = bytes-put main _ _ m (bytes-take (min (c .count) (dev .block)) _ (blocks-from-bytes dev store 0 1 d));
+          main-bytes = bytes-scattered (pieces c) main _ m (bytes-take (min (total c) (dev .block)) _ (blocks-from-bytes dev store 0 1 d));
           store-bytes = d;
           cause-byte = omega arith;
           moved-fits = omega arith;
-          blocks-fit = a .some;
+          blocks-fit = omega arith;
+          located-fits = l;
         };
         sense = λ _ _. sent-fields 24 _ _ (k .sense .bytes) (sense-record _ _ (sized-zeros 24) k);
         sense-type = λ _ _. sent-fields 7 _ _ (bytes-tested _ refl) k;
@@ -258,18 +264,20 @@ module _ (dev : Device) (c : Ccw) (s : State) (main store : List ℕ) (h : 1 ≤
   pub step-fields : Fields c (step dev c s main store)
   step-fields = step-cases dev c s main store (Fields c) fields-cases
 
--- a command moves no more blocks than bytes
-pub step-blocks : (dev : Device) (c : Ccw) (s : State) (main store : List ℕ) → 1 ≤ dev .block → step dev c s main store .done .blocks ≤ c .count
-unfolding noOperation defineExtent defineDone locate locateDone read readDone write writeDone readIpl iplDone sense senseType readLog sent refused
-step-blocks dev c s main store h = step-cases dev c s main store (λ o. o .done .blocks ≤ c .count) (record {
-  refusal = λ _ _ _. omega arith;
-  no-operation = λ _. omega arith;
-  define-extent = λ _ _ _. omega arith;
-  locate = λ _ _ _. omega arith;
-  read = λ _ _ _. omega (arith, begun-least dev (min (c .count) (seen c s .located .blocks * dev .block)) h);
-  write = λ _ _ _. omega (arith, begun-least dev (min (c .count) (seen c s .located .blocks * dev .block)) h);
-  read-ipl = λ a _ _. omega (arith, a .some);
-  sense = λ _ _. omega arith;
-  sense-type = λ _ _. omega arith;
-  read-log = λ _ _. omega arith;
-})
+-- a command moves no more blocks than two bytes count
+pub step-blocks : (dev : Device) (c : Command) (s : State) (main store : List ℕ) → 1 ≤ dev .block → s .located .blocks < 65536 → step dev c s main store .done .blocks < 65536
+unfolding noOperation defineExtent defineDone locate locateDone read readDone write writeDone readIpl iplDone sense senseType readLog sent refused seen after
+step-blocks dev c s main store h l =
+    let few = begun-within dev (min (total c) (s .located .blocks * dev .block)) (s .located .blocks) h (omega arith) in
+    step-cases dev c s main store (λ o. o .done .blocks < 65536) (record {
+      refusal = λ _ _ _. omega arith;
+      no-operation = λ _. omega arith;
+      define-extent = λ _ _ _. omega arith;
+      locate = λ _ _ _. omega arith;
+      read = λ _ _ _. omega (arith, few);
+      write = λ _ _ _. omega (arith, few);
+      read-ipl = λ _ _ _. omega arith;
+      sense = λ _ _. omega arith;
+      sense-type = λ _ _. omega arith;
+      read-log = λ _ _. omega arith;
+    })

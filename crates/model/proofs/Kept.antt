@@ -14,18 +14,19 @@ use Rattle.numbers.specs.Bytes.{AreBytes}
 use Rattle.numbers.specs.Big.{be2}
 use Rattle.numbers.proofs.Bytes.{bytes-nil, bytes-cons, bytes-append}
 use Rattle.numbers.proofs.Big.{bytes2-are, bytes2-hold, be2-fits}
-use Rattle.slices.proofs.Laws.{bytes-put}
-use Rattle.model.specs.declared.ccw.Ccw.{Ccw}
+use Rattle.slices.proofs.Laws.{bytes-zeros, bytes-put}
 use Rattle.model.specs.declared.record.Record.{Record}
 use Rattle.model.specs.declared.device.Device.{Device}
 use Rattle.model.specs.State.{Done}
 use Rattle.model.specs.Rules.{firstOf}
-use Rattle.model.specs.Lent.{ccwSize, ccwAt, blockCount}
+use Rattle.model.specs.Lent.{ccwSize, blockCount}
+use Rattle.model.specs.Pieces.{Command, pieces, commandsIn, commandAt, total}
 use Rattle.model.specs.Causes.{callCauses, kindOf}
 use Rattle.model.specs.Names.{residual-at, cause-at, blocks-at}
-use Rattle.model.specs.Answer.{channelStatus, residual, answerOf, wrongLength}
+use Rattle.model.specs.Answer.{channelStatus, residual, answerOf, answersOf, wrongLength}
 use Rattle.model.specs.Chain.{System, system, stepAt, next, run, start, Called, called, callOf}
 use Rattle.numbers.proofs.Choice.{pick-ind}
+use Rattle.model.proofs.Pieces.{SmallCounts, spread-small, command-small}
 use Rattle.model.proofs.Leaving.{status-byte, channel-byte}
 use Rattle.model.proofs.Endings.{callable}
 use Rattle.model.proofs.Lengths.{some-block}
@@ -33,13 +34,13 @@ use Rattle.model.proofs.Fields.{IsRecord, step-fields}
 
 -- an answer
 
-pub record Holds (c : Ccw) (d : Done) : Type 0 where
+pub record Holds (c : Command) (d : Done) : Type 0 where
   pub are-bytes : AreBytes (answerOf c d)
-  pub residual-whole : be2 (answerOf c d) residual-at ≡ c .count - d .moved
+  pub residual-whole : be2 (answerOf c d) residual-at ≡ residual c d
   pub cause-whole : getD (answerOf c d) cause-at 0 ≡ d .cause
   pub blocks-whole : be2 (answerOf c d) blocks-at ≡ d .blocks
 
-pub answer-holds : (c : Ccw) (d : Done) → c .count < 65536 → d .cause < 256 → d .blocks < 65536 → Holds c d
+pub answer-holds : (c : Command) (d : Done) → SmallCounts (pieces c) → d .cause < 256 → d .blocks < 65536 → Holds c d
 unfolding answerOf channelStatus residual
 answer-holds c d n w b =
     record {
@@ -47,10 +48,15 @@ answer-holds c d n w b =
           bytes-append _ _ (bytes-append _ _ (bytes-append _ _
           (bytes-cons _ _ (status-byte (kindOf (d .cause))) (bytes-cons _ _ (channel-byte (kindOf (d .cause)) (wrongLength c (d .can))) bytes-nil))
           (bytes2-are _)) (bytes-cons _ _ w (bytes-cons _ _ (omega arith) bytes-nil))) (bytes2-are _);
-      residual-whole = bytes2-hold (c .count - d .moved) (omega arith);
+      residual-whole = bytes2-hold _ (spread-small (c .first) (c .later) (d .moved) n);
       cause-whole = refl;
       blocks-whole = bytes2-hold (d .blocks) b;
     }
+
+-- a piece that is filled is answered by zeros
+answers-bytes : (c : Command) (d : Done) → AreBytes (answerOf c d) → AreBytes (answersOf c d)
+unfolding answersOf
+answers-bytes c d b = bytes-append _ _ (bytes-zeros _) b
 
 -- a chain
 
@@ -59,23 +65,21 @@ pub record IsLent (y : System) : Type 0 where
   pub main-bytes : AreBytes (y .main)
   pub store-bytes : AreBytes (y .store)
   pub answers-bytes : AreBytes (y .answers)
-
-pub count-fits : (chain : List ℕ) (i : ℕ) → AreBytes chain → ccwAt chain i .count < 65536
-unfolding ccwAt
-count-fits chain i b = be2-fits chain _ b
+  pub located-fits : y .state .located .blocks < 65536
 
 module _ (dev : Device) (chain : List ℕ) (h : 1 ≤ dev .block) (b : AreBytes chain) where
   pub next-bytes : (i : ℕ) (y : System) → IsLent y → IsLent (next dev chain i y)
   unfolding next stepAt
   next-bytes i y l =
-      let c : Ccw = ccwAt chain i in
-      let f = step-fields dev c (y .state) (y .main) (y .store) h (l .unit-fields) (l .main-bytes) (l .store-bytes) in
-      let n = count-fits chain i b in
+      let c : Command = commandAt chain i in
+      let f = step-fields dev c (y .state) (y .main) (y .store) h (l .unit-fields) (l .main-bytes) (l .store-bytes) (l .located-fits) in
+      let n = command-small chain i b in
       record {
         unit-fields = f .unit-fields;
         main-bytes = f .main-bytes;
         store-bytes = f .store-bytes;
-        answers-bytes = bytes-put (y .answers) _ _ (l .answers-bytes) (answer-holds c _ n (f .cause-byte) (omega (arith, n, f .blocks-fit)) .are-bytes);
+        answers-bytes = bytes-put (y .answers) _ _ (l .answers-bytes) (answers-bytes c _ (answer-holds c _ n (f .cause-byte) (f .blocks-fit) .are-bytes));
+        located-fits = f .located-fits;
       }
 
   run-bytes : (n i : ℕ) (y : System) → IsLent y → IsLent (run dev chain n i y)
@@ -107,11 +111,11 @@ pub call-bytes : (dev : Device) (chain main store : List ℕ) (u : Record) (answ
 unfolding callOf start
 call-bytes dev chain main store u answers b m d r a =
     let y : System = system (start u) main store answers 0 in
-    let l : IsLent y = record { unit-fields = r; main-bytes = m; store-bytes = d; answers-bytes = a } in
+    let l : IsLent y = record { unit-fields = r; main-bytes = m; store-bytes = d; answers-bytes = a; located-fits = omega arith } in
     let gives : (z : System) → IsLent z → GivesBytes (called (firstOf (callCauses dev chain main store answers)) z)
     = λ z k. record { unit-fields = k .unit-fields; main-bytes = k .main-bytes; store-bytes = k .store-bytes; answers-bytes = k .answers-bytes } in
     gives _ (pick-ind IsLent _ _ _
     (λ e.
     let k = callable dev chain main store answers (eqb-true _ _ e) in
-    run-bytes dev chain (some-size dev store (some-block dev store (k .stored) (k .even))) b (length chain / ccwSize) 0 y l)
+    run-bytes dev chain (some-size dev store (some-block dev store (k .stored) (k .even))) b (length (commandsIn chain)) 0 y l)
     (λ _. l))

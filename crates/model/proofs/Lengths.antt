@@ -7,26 +7,27 @@
 use Prim.Native.Nat.{ℕ, zero, suc, _+_, _*_, _/_, _%_, _≤_, _<_, min}
 use mathlib.Core.Path.{_≡_, refl, sym, _∙_}
 use mathlib.Core.List.{List}
-use lib.ListN.{length, take, drop, length-take}
+use lib.ListN.{length, take, drop, length-append}
 use native.Mathlib.Nat.{mul-zero, mul-le-mul-right, div-mul-le-self, div-add-mod}
 use native.Mathlib.Omega.{arith}
 use borrow.Author.Tests.{eqb-true}
 use Rattle.slices.specs.Parts.{pad}
-use Rattle.slices.proofs.Laws.{length-put, length-pad}
-use Rattle.model.specs.declared.ccw.Ccw.{Ccw}
+use Rattle.slices.proofs.Laws.{length-zeros, length-put, length-pad}
 use Rattle.model.specs.declared.record.Record.{Record}
 use Rattle.model.specs.declared.device.Device.{Device}
 use Rattle.model.specs.State.{State, Done}
 use Rattle.model.specs.Names.{NO-OPERATION}
 use Rattle.model.specs.Rules.{firstOf}
-use Rattle.model.specs.Lent.{ccwSize, ccwAt, delivered, blockStart, blockCount, blocksInto}
+use Rattle.model.specs.Lent.{ccwSize, blockStart, blockCount, blocksInto}
+use Rattle.model.specs.Pieces.{Command, pieces, commandsIn, commandAt, total, delivered}
 use Rattle.model.specs.Parameters.{writes}
 use Rattle.model.specs.Causes.{callCauses}
 use Rattle.model.specs.Commands.{Out, out, noOperation, defineExtent, locate, sent, sense, senseType, readLog, read, write, readIpl, refused, refusal, seen, after, step, defineDone, iplDone, locateDone, readDone, writeDone}
-use Rattle.model.specs.Answer.{answerSize, answerOf}
+use Rattle.model.specs.Answer.{answerSize, answerOf, answersOf, answered}
 use Rattle.model.specs.Chain.{System, system, stepAt, next, run, start, Called, called, callOf}
-use Rattle.model.specs.Safe.{Safe}
+use Rattle.model.specs.Safe.{Inside, Safe}
 use Rattle.numbers.proofs.Choice.{pick-ind}
+use Rattle.model.proofs.Pieces.{length-scattered, ccwsLeft, all-left, next-left}
 use Rattle.model.proofs.Steps.{Admitted, Cases, step-cases}
 use Rattle.model.proofs.Endings.{callable}
 use Rattle.model.proofs.Safety.{on-device, after-locate, safe-start, step-safe}
@@ -38,10 +39,9 @@ blocks-into-length dev store block (suc n) bytes h =
     let e = length-put store (block * dev .block) (pad (dev .block) bytes) (rw (length-pad (dev .block) bytes) (omega arith)) in
     blocks-into-length dev _ (block + 1) n (drop (dev .block) bytes) (rw e (omega arith)) ∙ e
 
--- a command moves no more than its count
-delivered-length : (c : Ccw) (main : List ℕ) (can : ℕ) (bytes : List ℕ) → c .address + c .count ≤ length main → length (delivered c main (take (min (c .count) can) bytes)) ≡ length main
+pub delivered-length : (c : Command) (main bytes : List ℕ) → Inside (pieces c) main → length (delivered c main bytes) ≡ length main
 unfolding delivered
-delivered-length c main can bytes h = length-put main (c .address) _ (rw length-take (omega arith))
+delivered-length c main bytes h = length-scattered (pieces c) main bytes h
 
 -- blocks of the device lie in the store
 pub in-store : (dev : Device) (store : List ℕ) (n : ℕ) → n ≤ blockCount dev store → n * dev .block ≤ length store
@@ -54,14 +54,14 @@ pub record SameLengths (main store : List ℕ) (o : Out) : Type 0 where
   pub main-length : length (o .main) ≡ length main
   pub store-length : length (o .store) ≡ length store
 
-module _ (dev : Device) (c : Ccw) (s : State) (main store : List ℕ) (h : Safe s (blockCount dev store)) where
+module _ (dev : Device) (c : Command) (s : State) (main store : List ℕ) (h : Safe s (blockCount dev store)) where
   lengths-cases : Cases dev c s main store (SameLengths main store)
   unfolding noOperation defineExtent defineDone locate locateDone sent sense senseType readLog read readDone write writeDone readIpl iplDone refused seen after
   lengths-cases =
       let same : (d : Done) → SameLengths main store (out d main store) = λ d. record { main-length = refl; store-length = refl } in
       let moved : (d : Done) (can : ℕ) (bytes : List ℕ) → Admitted c main → (c .command ≡ NO-OPERATION → ⊥)
-      → SameLengths main store (out d (delivered c main (take (min (c .count) can) bytes)) store)
-      = λ d can bytes a x. record { main-length = delivered-length c main can bytes (a .room x); store-length = refl } in
+      → SameLengths main store (out d (delivered c main (take (min (total c) can) bytes)) store)
+      = λ d can bytes a x. record { main-length = delivered-length c main _ (a .room x); store-length = refl } in
       record {
         refusal = λ _ _ _. same _;
         no-operation = λ _. same _;
@@ -90,30 +90,38 @@ pub record Going (dev : Device) (first y : System) : Type 0 where
   pub answers-length : length (y .answers) ≡ length (first .answers)
   pub safe : Safe (y .state) (blockCount dev (y .store))
 
-pub answer-length : (c : Ccw) (d : Done) → length (answerOf c d) ≡ answerSize
+pub answer-length : (c : Command) (d : Done) → length (answerOf c d) ≡ answerSize
 unfolding answerOf
 answer-length c d = refl
 
+pub answers-length : (c : Command) (d : Done) → length (answersOf c d) ≡ answered c d * answerSize
+unfolding answersOf answered
+answers-length c d = rw (length-append, length-zeros, answer-length) (omega arith)
+
 module _ (dev : Device) (chain : List ℕ) (first : System) (some : 0 < blockCount dev (first .store)) where
-  pub next-going : (i : ℕ) (y : System) → i * answerSize + answerSize ≤ length (first .answers) → Going dev first y → Going dev first (next dev chain i y)
+  pub next-going : (i : ℕ) (y : System) → i < length (commandsIn chain) → (y .reached + ccwsLeft chain i) * answerSize ≤ length (first .answers) → Going dev first y
+      → Going dev first (next dev chain i y) × ((next dev chain i y .reached + ccwsLeft chain (i + 1)) * answerSize ≤ length (first .answers))
   unfolding next stepAt blockCount
-  next-going i y h g =
-      let c : Ccw = ccwAt chain i in
+  next-going i y n h g =
+      let c : Command = commandAt chain i in
       let l = step-lengths dev c (y .state) (y .main) (y .store) (g .safe) in
       let more : 0 < length (y .store) / dev .block = rw (g .store-length) some in
-      record {
-        main-length = l .main-length ∙ g .main-length;
-        store-length = l .store-length ∙ g .store-length;
-        answers-length = length-put (y .answers) (i * answerSize) _ (rw (answer-length, g .answers-length) h) ∙ g .answers-length;
-        safe = rw (l .store-length) (step-safe dev c (y .state) (y .main) (y .store) more (g .safe));
-      }
+      let few = next-left chain i (step dev c (y .state) (y .main) (y .store) .done) n in (
+        record {
+          main-length = l .main-length ∙ g .main-length;
+          store-length = l .store-length ∙ g .store-length;
+          answers-length = length-put (y .answers) (y .reached * answerSize) _ (rw (answers-length, g .answers-length) (omega (arith, few, h))) ∙ g .answers-length;
+          safe = rw (l .store-length) (step-safe dev c (y .state) (y .main) (y .store) more (g .safe));
+        },
+        omega (arith, few, h),
+      )
 
-  pub run-going : (n i : ℕ) (y : System) → (i + n) * answerSize ≤ length (first .answers) → Going dev first y → Going dev first (run dev chain n i y)
+  pub run-going : (n i : ℕ) (y : System) → i + n ≤ length (commandsIn chain) → (y .reached + ccwsLeft chain i) * answerSize ≤ length (first .answers) → Going dev first y → Going dev first (run dev chain n i y)
   unfolding run
-  run-going zero i y h g = g
-  run-going (suc n) i y h g =
-      let k = next-going i y (omega arith) g in
-      pick-ind (Going dev first) _ _ _ (λ _. run-going n (i + 1) (next dev chain i y) (omega arith) k) (λ _. k)
+  run-going zero i y l h g = g
+  run-going (suc n) i y l h g =
+      let k = next-going i y (omega arith) h g in
+      pick-ind (Going dev first) _ _ _ (λ _. run-going n (i + 1) (next dev chain i y) (omega arith) (k .1) (k .0)) (λ _. k .0)
 
 -- the call
 
@@ -137,7 +145,7 @@ call-lengths dev chain main store u answers =
     pick-ind (λ (z : System). SameSizes main store answers (called (firstOf (callCauses dev chain main store answers)) z)) _ _ _
     (λ b.
     let k = callable dev chain main store answers (eqb-true _ _ b) in
-    let g = run-going dev chain y (some-block dev store (k .stored) (k .even)) (length chain / ccwSize) 0 y (omega (arith, k .whole, k .answered))
+    let g = run-going dev chain y (some-block dev store (k .stored) (k .even)) (length (commandsIn chain)) 0 y (omega arith) (omega (arith, k .whole, k .answered, all-left chain))
     (record { main-length = refl; store-length = refl; answers-length = refl; safe = safe-start u _ }) in
     record { main-length = g .main-length; store-length = g .store-length; answers-length = g .answers-length })
     (λ _. record { main-length = refl; store-length = refl; answers-length = refl })

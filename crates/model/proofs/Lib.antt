@@ -1,5 +1,7 @@
 pub mod Verdicts
 pub mod Leaving
+pub mod Pieces
+pub mod Runs
 pub mod Steps
 pub mod Refusals
 pub mod Endings
@@ -13,6 +15,7 @@ pub mod Hosts
 pub mod Exactly
 pub mod Read
 pub mod Reached
+pub mod Places
 pub mod Alike
 pub mod AlikeVerdicts
 pub mod AlikeCommands
@@ -20,6 +23,7 @@ pub mod MovedRun
 pub mod Opened
 pub mod Inputs
 pub mod Worked
+pub mod WorkedPieces
 pub mod Overruled
 pub mod Corners
 pub mod WrongUnits

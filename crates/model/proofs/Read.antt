@@ -11,8 +11,8 @@ use mathlib.Core.Bool.{Bool, true, false, not, true≢false}
 use mathlib.Core.List.{List, [], _++_}
 use native.Mathlib.Omega.{arith}
 use borrow.Author.Tests.{eqb-true, eqb-false, ne-eqb, ltb-true, ltb-false}
-use Rattle.model.specs.declared.ccw.Ccw.{Ccw}
 use Rattle.model.specs.declared.device.Device.{Device}
+use Rattle.model.specs.Pieces.{Command, total}
 use Rattle.model.specs.State.{State}
 use Rattle.numbers.specs.Choice.{_<?_, _=?_, oneOf, pick}
 use Rattle.model.specs.Rules.{Rule, firstOf}
@@ -48,9 +48,9 @@ read-most : (w : ℕ) → bytesRead w ≤ extentLength
 unfolding bytesRead
 read-most w = pick-ind (λ (n : ℕ). n ≤ extentLength) _ _ _ (λ _. omega arith) (λ _. pick-ind (λ (n : ℕ). n ≤ extentLength) _ _ _ (λ _. omega arith) (λ _. omega arith))
 
-module _ (dev : Device) (c : Ccw) (s : State) (main store : List ℕ) where
+module _ (dev : Device) (c : Command) (s : State) (main store : List ℕ) where
   abbrev Read : ℕ → Type 0
-  Read w = bytesRead w ≤ c .count
+  Read w = bytesRead w ≤ total c
 
   none-read : (w : ℕ) → bytesRead w =? 0 ≡ true → Read w
   none-read w e = omega (arith, eqb-true (bytesRead w) 0 e)
@@ -61,7 +61,7 @@ module _ (dev : Device) (c : Ccw) (s : State) (main store : List ℕ) where
 
   extent-fits : (blocks : ℕ) (p : List ℕ) → Read (firstOf (defineExtentCauses dev blocks c s p))
   unfolding defineExtentCauses firstOf bytesRead oneOf pick
-  extent-fits blocks p = pick-ind Read (c .count <? extentLength) _ _ (λ _. omega arith) (λ b. omega (arith, read-most (pick (s .defined) 21 (firstOf (extentCauses dev blocks p))), ltb-false (c .count) extentLength b))
+  extent-fits blocks p = pick-ind Read (total c <? extentLength) _ _ (λ _. omega arith) (λ b. omega (arith, read-most (pick (s .defined) 21 (firstOf (extentCauses dev blocks p))), ltb-false (total c) extentLength b))
 
   location-most : (p : List ℕ) → bytesRead (firstOf (locationCauses s p)) ≤ locateLength
   unfolding locationCauses permissionCauses bytesRead oneOf pick
@@ -71,9 +71,9 @@ module _ (dev : Device) (c : Ccw) (s : State) (main store : List ℕ) where
   unfolding locateCauses firstOf bytesRead oneOf pick
   locate-fits p =
       pick-ind Read (not (s .defined)) _ _ (λ _. omega arith) (λ _.
-      pick-ind Read (c .count <? locateLength) _ _ (λ _. omega arith) (λ b. omega (arith, location-most p, ltb-false (c .count) locateLength b)))
+      pick-ind Read (total c <? locateLength) _ _ (λ _. omega arith) (λ b. omega (arith, location-most p, ltb-false (total c) locateLength b)))
 
-  pub verdict-read : bytesRead (verdict dev c s main store) ≤ c .count
+  pub verdict-read : bytesRead (verdict dev c s main store) ≤ total c
   unfolding verdict causesOf channelCauses unitCauses readIplCauses transferCauses bytesRead oneOf pick
   verdict-read =
       every-first Read _ none-read (channelCauses c main ++ unitCauses c s) (ownCauses dev c s main store) refl

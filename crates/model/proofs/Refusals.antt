@@ -10,14 +10,14 @@ use mathlib.Core.Path.{_≡_, refl, _∙_}
 use mathlib.Core.List.{List}
 use lib.ListN.{length}
 use borrow.Author.Tests.{ne-eqb}
-use Rattle.model.specs.declared.ccw.Ccw.{Ccw}
 use Rattle.model.specs.declared.record.Record.{Record}
 use Rattle.model.specs.declared.kind.Kind.the-variants.{ProgramCheck}
 use Rattle.model.specs.declared.device.Device.{Device}
 use Rattle.model.specs.State.{State}
 use Rattle.numbers.specs.Choice.{pick}
 use Rattle.model.specs.Rules.{firstOf}
-use Rattle.model.specs.Lent.{ccwSize}
+use Rattle.model.specs.Pieces.{commandsIn}
+use Rattle.model.specs.Pieces.{Command}
 use Rattle.model.specs.Causes.{callCauses, hostCauses, kindOf, bytesRead, verdict}
 use Rattle.model.specs.Log.{withSense}
 use Rattle.model.specs.Commands.{Out, after, senseGiven, refused, step}
@@ -35,7 +35,7 @@ unfolding callOf start pick
 call-refused dev chain main store u answers w e n = rw (e, ne-eqb w 0 n)
 
 pub call-ran : (dev : Device) (chain main store : List ℕ) (u : Record) (answers : List ℕ) → firstOf (callCauses dev chain main store answers) ≡ 0
-    → callOf dev chain main store u answers ≡ called 0 (run dev chain (length chain / ccwSize) 0 (system (start u) main store answers 0))
+    → callOf dev chain main store u answers ≡ called 0 (run dev chain (length (commandsIn chain)) 0 (system (start u) main store answers 0))
 unfolding callOf pick
 call-ran dev chain main store u answers e = rw e
 
@@ -64,7 +64,7 @@ pub record Untouched (s : State) (main store : List ℕ) (o : Out) : Type 0 wher
   pub unit-check : SameButSense (s .unit) (o .done .state .unit)
   pub program-check : kindOf (o .done .cause) ≡ ProgramCheck → o .done .state .unit ≡ s .unit
 
-refused-untouched : (c : Ccw) (s : State) (main store : List ℕ) (w : ℕ) → Untouched s main store (refused c s main store w)
+refused-untouched : (c : Command) (s : State) (main store : List ℕ) (w : ℕ) → Untouched s main store (refused c s main store w)
 unfolding refused after withSense
 refused-untouched c s main store w =
     let same : SameButSense (s .unit) (s .unit) = record { blocks-read = refl; blocks-written = refl; movements = refl; ready = refl; read-only = refl } in
@@ -78,6 +78,6 @@ refused-untouched c s main store w =
       program-check = λ e. rw e;
     }
 
-pub step-untouched : (dev : Device) (c : Ccw) (s : State) (main store : List ℕ) → (step dev c s main store .done .cause ≡ 0 → ⊥) → Untouched s main store (step dev c s main store)
+pub step-untouched : (dev : Device) (c : Command) (s : State) (main store : List ℕ) → (step dev c s main store .done .cause ≡ 0 → ⊥) → Untouched s main store (step dev c s main store)
 step-untouched dev c s main store n =
     rw (step-refused dev c s main store (λ v. n (step-cause dev c s main store ∙ v))) (refused-untouched c s main store (verdict dev c s main store))

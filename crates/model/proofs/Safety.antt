@@ -10,7 +10,6 @@ use mathlib.Core.Bool.{Bool, true, false, false≢true}
 use mathlib.Core.List.{List}
 use native.Mathlib.Omega.{arith}
 use borrow.Author.Tests.{eqb-false, ltb-true, ltb-false, not-false}
-use Rattle.model.specs.declared.ccw.Ccw.{Ccw}
 use Rattle.model.specs.declared.extent.Extent.{Extent}
 use Rattle.model.specs.declared.extent.Located.{Located}
 use Rattle.model.specs.declared.record.Record.{Record}
@@ -19,6 +18,7 @@ use Rattle.model.specs.declared.device.Device.{Device}
 use Rattle.model.specs.State.{State}
 use Rattle.numbers.specs.Choice.{_<?_}
 use Rattle.model.specs.Lent.{blockCount}
+use Rattle.model.specs.Pieces.{Command, total}
 use Rattle.model.specs.Parameters.{extentLength, extentIn, locateLength, locatedIn, replicationIn, processed, address, outside}
 use Rattle.model.specs.Causes.{extentCauses, defineExtentCauses, permissionCauses, locationCauses, locateCauses, transferCauses, a-locate, kindOf}
 use Rattle.model.specs.Commands.{after, extentSet, locateSet, noOperation, defineExtent, locate, sent, sense, senseType, readLog, read, write, wholeDevice, readIpl, senseGiven, refused, refusal, seen, step, defineDone, iplDone, locateDone, readDone, writeDone}
@@ -36,31 +36,31 @@ class-a-usable = record { some-size = omega arith; small-size = omega arith }
 
 -- parameters that no cause refuses
 
-pub record DefineOk (c : Ccw) (e : Extent) (blocks : ℕ) : Type 0 where
-  pub long : extentLength ≤ c .count
+pub record DefineOk (c : Command) (e : Extent) (blocks : ℕ) : Type 0 where
+  pub long : extentLength ≤ total c
   pub placed : OnDevice e blocks
 
-pub define-ok : (dev : Device) (blocks : ℕ) (c : Ccw) (s : State) (p : List ℕ) → Failed (defineExtentCauses dev blocks c s p) → DefineOk c (extentIn p) blocks
+pub define-ok : (dev : Device) (blocks : ℕ) (c : Command) (s : State) (p : List ℕ) → Failed (defineExtentCauses dev blocks c s p) → DefineOk c (extentIn p) blocks
 unfolding defineExtentCauses extentCauses
 define-ok dev blocks c s p f = record {
   long = ltb-false _ _ (f .0);
   placed = record { order = ltb-false _ _ (f .1 .1 .1 .1 .1 .0); inside = ltb-true _ _ (not-false _ (f .1 .1 .1 .1 .1 .1 .0)) };
 }
 
-pub record LocateOk (c : Ccw) (s : State) (l : Located) : Type 0 where
+pub record LocateOk (c : Command) (s : State) (l : Located) : Type 0 where
   pub defined : s .defined ≡ true
-  pub long : locateLength ≤ c .count
+  pub long : locateLength ≤ total c
   pub placed : InExtent (s .extent) l
 
 -- a replicated read processes at least the blocks of one unit
-processed-covers : (c : Ccw) (s : State) (p : List ℕ) → Failed (locateCauses c s p) → locatedIn p .blocks ≤ processed (locatedIn p) (replicationIn p)
+processed-covers : (c : Command) (s : State) (p : List ℕ) → Failed (locateCauses c s p) → locatedIn p .blocks ≤ processed (locatedIn p) (replicationIn p)
 unfolding locateCauses locationCauses permissionCauses processed
 processed-covers c s p f =
     pick-ind (λ (n : ℕ). locatedIn p .blocks ≤ n) _ _ _
     (λ b. ltb-false _ _ (either-false _ _ (both-false _ _ (f .1 .1 .1 .1 .1 .0) b) .0))
     (λ b. omega arith)
 
-pub locate-ok : (c : Ccw) (s : State) (p : List ℕ) → Failed (locateCauses c s p) → LocateOk c s (locatedIn p)
+pub locate-ok : (c : Command) (s : State) (p : List ℕ) → Failed (locateCauses c s p) → LocateOk c s (locatedIn p)
 unfolding locateCauses locationCauses permissionCauses outside
 locate-ok c s p f =
     let k = processed-covers c s p f in
@@ -95,11 +95,11 @@ safe-after : (s : State) (u : Record) (b : Before) (blocks : ℕ) → a-locate b
 unfolding after
 safe-after s u b blocks e h = record { extent = h .extent; located = λ f. absurd (false≢true (sym e ∙ f)) }
 
-pub safe-seen : (c : Ccw) (s : State) (blocks : ℕ) → Safe s blocks → Safe (seen c s) blocks
+pub safe-seen : (c : Command) (s : State) (blocks : ℕ) → Safe s blocks → Safe (seen c s) blocks
 unfolding seen after
 safe-seen c s blocks h = record { extent = h .extent; located = h .located }
 
-module _ (dev : Device) (c : Ccw) (s : State) (main store : List ℕ) (some : 0 < blockCount dev store) (h : Safe s (blockCount dev store)) where
+module _ (dev : Device) (c : Command) (s : State) (main store : List ℕ) (some : 0 < blockCount dev store) (h : Safe s (blockCount dev store)) where
   safe-cases : Cases dev c s main store (λ o. Safe (o .done .state) (blockCount dev store))
   unfolding noOperation defineExtent defineDone locate locateDone read readDone write writeDone readIpl iplDone sense senseType readLog sent refused seen after extentSet locateSet wholeDevice address
   safe-cases =

@@ -14,25 +14,27 @@ use mathlib.Core.List.{List, [], _∷_, _++_}
 use lib.ListN.{length}
 use native.Mathlib.Omega.{arith}
 use borrow.Author.Tests.{eqb-true, eqb-false, ne-eqb, ltb-false, not-false}
-use Rattle.model.specs.declared.ccw.Ccw.{Ccw}
 use Rattle.model.specs.declared.device.Device.{Device}
 use Rattle.model.specs.State.{State}
 use Rattle.model.specs.Names.{NO-OPERATION, DEFINE-EXTENT, LOCATE, READ, WRITE, READ-IPL, SENSE, SENSE-TYPE, READ-LOG}
 use Rattle.numbers.specs.Choice.{_=?_, pick, oneOf}
 use Rattle.model.specs.Rules.{Rule, firstOf}
-use Rattle.model.specs.Lent.{fetched, blockCount}
+use Rattle.model.specs.Lent.{blockCount}
+use Rattle.model.specs.Pieces.{Command, pieces, total, fetched}
 use Rattle.model.specs.Parameters.{extentLength, locateLength, reads, writes}
 use Rattle.model.specs.Causes.{channelCauses, commands, unitCauses, extentCauses, defineExtentCauses, permissionCauses, locationCauses, locateCauses, readIplCauses, transferCauses, ownCauses, causesOf, verdict}
 use Rattle.model.specs.Commands.{Out, noOperation, defineExtent, locate, read, write, readIpl, sense, senseType, readLog, accepted, after, sent, refused, cleared, seen, decided, performed, step, defineDone, iplDone, locateDone, readDone, writeDone}
 use Rattle.model.specs.Exactly.{Failed, absent}
 use Rattle.numbers.proofs.Choice.{pick-ind, pick-true, pick-false}
 use Rattle.numbers.proofs.Joined.{both-false}
-use Rattle.model.proofs.Verdicts.{first-append, failed-upto, failed-all}
+use Rattle.model.specs.Safe.{Inside}
+use Rattle.model.proofs.Verdicts.{first-append, failed-upto, failed-all, none-given}
+use Rattle.model.proofs.Pieces.{AllPassed, all-passed, some-counts, all-inside}
 
 -- what the channel's tests leave known of a command, and the unit's
-pub record Admitted (c : Ccw) (main : List ℕ) : Type 0 where
-  pub some : 0 < c .count
-  pub room : (c .command ≡ NO-OPERATION → ⊥) → c .address + c .count ≤ length main
+pub record Admitted (c : Command) (main : List ℕ) : Type 0 where
+  pub some : 0 < total c
+  pub room : (c .command ≡ NO-OPERATION → ⊥) → Inside (pieces c) main
   pub listed : oneOf commands (c .command) ≡ true
 
 either-cases : (P : Type 0) (a b : Bool) → a || b ≡ true → (a ≡ true → P) → (b ≡ true → P) → P
@@ -50,14 +52,14 @@ none-of n e = false≢true e
 
 -- by the command: its own table, what it does, and both
 
-pub record OwnAs (dev : Device) (c : Ccw) (s : State) (main store : List ℕ) (own : List Rule) : Type 0 where
+pub record OwnAs (dev : Device) (c : Command) (s : State) (main store : List ℕ) (own : List Rule) : Type 0 where
   pub define-extent : c .command ≡ DEFINE-EXTENT → own ≡ defineExtentCauses dev (blockCount dev store) c s (fetched c main extentLength)
   pub locate : c .command ≡ LOCATE → own ≡ locateCauses c s (fetched c main locateLength)
   pub read : c .command ≡ READ → own ≡ transferCauses reads s
   pub write : c .command ≡ WRITE → own ≡ transferCauses writes s
   pub read-ipl : c .command ≡ READ-IPL → own ≡ readIplCauses s
 
-pub record AcceptedAs (dev : Device) (c : Ccw) (s : State) (main store : List ℕ) (o : Out) : Type 0 where
+pub record AcceptedAs (dev : Device) (c : Command) (s : State) (main store : List ℕ) (o : Out) : Type 0 where
   pub no-operation : c .command ≡ NO-OPERATION → o ≡ noOperation s main store
   pub define-extent : c .command ≡ DEFINE-EXTENT → o ≡ defineExtent c s main store
   pub locate : c .command ≡ LOCATE → o ≡ locate c s main store
@@ -68,7 +70,7 @@ pub record AcceptedAs (dev : Device) (c : Ccw) (s : State) (main store : List �
   pub sense-type : c .command ≡ SENSE-TYPE → o ≡ senseType c s main store
   pub read-log : c .command ≡ READ-LOG → o ≡ readLog c s main store
 
-pub record PerformedAs (dev : Device) (c : Ccw) (s : State) (main store : List ℕ) (o : Out) : Type 0 where
+pub record PerformedAs (dev : Device) (c : Command) (s : State) (main store : List ℕ) (o : Out) : Type 0 where
   pub no-operation : c .command ≡ NO-OPERATION → o ≡ noOperation s main store
   pub define-extent : c .command ≡ DEFINE-EXTENT
       → o ≡ decided c s main store (firstOf (defineExtentCauses dev (blockCount dev store) c s (fetched c main extentLength))) (defineExtent c (cleared s) main store)
@@ -80,7 +82,7 @@ pub record PerformedAs (dev : Device) (c : Ccw) (s : State) (main store : List �
   pub sense-type : c .command ≡ SENSE-TYPE → o ≡ senseType c (cleared s) main store
   pub read-log : c .command ≡ READ-LOG → o ≡ readLog c (cleared s) main store
 
-module _ (dev : Device) (c : Ccw) (s : State) (main store : List ℕ) where
+module _ (dev : Device) (c : Command) (s : State) (main store : List ℕ) where
   own-as : OwnAs dev c s main store (ownCauses dev c s main store)
   unfolding ownCauses pick
   own-as = record { define-extent = λ e. rw e; locate = λ e. rw e; read = λ e. rw e; write = λ e. rw e; read-ipl = λ e. rw e }
@@ -93,7 +95,7 @@ module _ (dev : Device) (c : Ccw) (s : State) (main store : List ℕ) where
   unfolding performed decided ownCauses accepted seen cleared after pick oneOf firstOf
   performed-as = record { no-operation = λ e. rw e; define-extent = λ e. rw e; locate = λ e. rw e; read = λ e. rw e; write = λ e. rw e; read-ipl = λ e. rw e; sense = λ e. rw e; sense-type = λ e. rw e; read-log = λ e. rw e }
 
-module _ (dev : Device) (c : Ccw) (s : State) (main store : List ℕ) where
+module _ (dev : Device) (c : Command) (s : State) (main store : List ℕ) where
   pub step-refused : (verdict dev c s main store ≡ 0 → ⊥) → step dev c s main store ≡ refused c s main store (verdict dev c s main store)
   unfolding step decided
   step-refused n = pick-false _ _ _ (ne-eqb _ _ n)
@@ -107,12 +109,14 @@ module _ (dev : Device) (c : Ccw) (s : State) (main store : List ℕ) where
   unfolding channelCauses
   early-unit w e f = first-append (channelCauses c main) (unitCauses c s) refl ∙ rw (e, f) (pick-true _ _ _ refl)
 
-  pub channel-room : firstOf (channelCauses c main) ≡ 0 → (c .command ≡ NO-OPERATION → ⊥) → c .address + c .count ≤ length main
+  -- each piece passes the channel's tests where the command does
+  channel-passed : Failed (channelCauses c main) → AllPassed (c .command) (length main) (pieces c)
   unfolding channelCauses
-  channel-room e n =
-      let f = failed-all 0 (channelCauses c main) refl e in
-      let other : not (c .command =? NO-OPERATION) ≡ true = rw (ne-eqb _ _ n) refl in
-      ltb-false _ _ (both-false _ _ (f .1 .1 .1 .0) other)
+  channel-passed f = all-passed (c .command) (length main) (c .first) (c .later) (none-given _ (f .1))
+
+  pub channel-room : firstOf (channelCauses c main) ≡ 0 → (c .command ≡ NO-OPERATION → ⊥) → Inside (pieces c) main
+  unfolding channelCauses
+  channel-room e n = all-inside (c .command) main (pieces c) n (channel-passed (failed-all 0 (channelCauses c main) refl e))
 
   -- the channel or the unit itself refuses the command
   pub step-early : (w : ℕ) → firstOf (channelCauses c main ++ unitCauses c s) ≡ w → (w ≡ 0 → ⊥) → step dev c s main store ≡ refused c s main store w
@@ -126,12 +130,10 @@ module _ (dev : Device) (c : Ccw) (s : State) (main store : List ℕ) where
   unfolding verdict causesOf channelCauses unitCauses
   past-channel w a e =
       let f = failed-upto w (channelCauses c main ++ unitCauses c s) (ownCauses dev c s main store) a e in
-      let none = eqb-false (c .count) 0 (f .0 .1 .1 .0) in (
+      let passed = channel-passed (f .0 .0, (f .0 .1 .0, (f .0 .1 .1 .0, (f .0 .1 .1 .1 .0, _)))) in (
         record {
-          some = omega (arith, none);
-          room = λ n.
-              let other : not (c .command =? NO-OPERATION) ≡ true = rw (ne-eqb _ _ n) refl in
-              ltb-false _ _ (both-false _ _ (f .0 .1 .1 .1 .0) other);
+          some = some-counts (c .command) (length main) (c .first) (c .later) passed;
+          room = λ n. all-inside (c .command) main (pieces c) n passed;
           listed = not-false _ (f .0 .1 .1 .1 .1 .1 .0);
         },
         f .1,
@@ -166,7 +168,7 @@ module _ (dev : Device) (c : Ccw) (s : State) (main store : List ℕ) where
   own-failed rs e a f = failed-all 0 rs a (sym (ap firstOf e) ∙ f)
 
 -- a property of every refusal and of what each accepted command does
-pub record Cases (dev : Device) (c : Ccw) (s : State) (main store : List ℕ) (P : Out → Type 0) : Type 0 where
+pub record Cases (dev : Device) (c : Command) (s : State) (main store : List ℕ) (P : Out → Type 0) : Type 0 where
   pub refusal : (w : ℕ) → (w ≡ 0 → ⊥) → verdict dev c s main store ≡ w → P (refused c s main store w)
   pub no-operation : c .command ≡ NO-OPERATION → P (noOperation (seen c s) main store)
   pub define-extent : Admitted c main → c .command ≡ DEFINE-EXTENT → Failed (defineExtentCauses dev (blockCount dev store) c s (fetched c main extentLength)) → P (defineExtent c (seen c s) main store)
@@ -178,7 +180,7 @@ pub record Cases (dev : Device) (c : Ccw) (s : State) (main store : List ℕ) (P
   pub sense-type : Admitted c main → c .command ≡ SENSE-TYPE → P (senseType c (seen c s) main store)
   pub read-log : Admitted c main → c .command ≡ READ-LOG → P (readLog c (seen c s) main store)
 
-pub accepted-cases : (dev : Device) (c : Ccw) (s : State) (main store : List ℕ) (P : Out → Type 0) → Cases dev c s main store P → verdict dev c s main store ≡ 0 → P (accepted dev c (seen c s) main store)
+pub accepted-cases : (dev : Device) (c : Command) (s : State) (main store : List ℕ) (P : Out → Type 0) → Cases dev c s main store P → verdict dev c s main store ≡ 0 → P (accepted dev c (seen c s) main store)
 unfolding channelCauses unitCauses defineExtentCauses extentCauses locateCauses locationCauses permissionCauses readIplCauses transferCauses
 accepted-cases dev c s main store P k e =
     let p = past-channel dev c s main store 0 refl e in
@@ -196,12 +198,12 @@ accepted-cases dev c s main store P k e =
     one-of Q _ _ _ l (λ x. rw (accepted-as dev c t main store .sense-type x) (k .sense-type a x)) (λ l.
     one-of Q _ _ _ l (λ x. rw (accepted-as dev c t main store .read-log x) (k .read-log a x)) (λ l. absurd (none-of _ l))))))))))
 
-pub step-cases : (dev : Device) (c : Ccw) (s : State) (main store : List ℕ) (P : Out → Type 0) → Cases dev c s main store P → P (step dev c s main store)
+pub step-cases : (dev : Device) (c : Command) (s : State) (main store : List ℕ) (P : Out → Type 0) → Cases dev c s main store P → P (step dev c s main store)
 unfolding step decided
 step-cases dev c s main store P k =
     pick-ind P _ _ _ (λ b. accepted-cases dev c s main store P k (eqb-true _ _ b)) (λ b. k .refusal _ (eqb-false _ _ b) refl)
 
-module _ (dev : Device) (c : Ccw) (s : State) (main store : List ℕ) where
+module _ (dev : Device) (c : Command) (s : State) (main store : List ℕ) where
   -- an accepted command has cause 0
   accepted-cause : verdict dev c s main store ≡ 0 → Cases dev c s main store (λ o. o .done .cause ≡ 0)
   unfolding noOperation defineExtent defineDone locate locateDone read readDone write writeDone readIpl iplDone sense senseType readLog sent

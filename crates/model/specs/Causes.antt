@@ -1,7 +1,7 @@
 -- The table of causes (01, Causes): each cause with the rule by which it is given, in 01's order.
 --     callCauses            1 to 5             before any command
 --     hostCauses            1 to 6             the same, where the unit record comes as bytes
---     channelCauses         13, 10, 11, 12     the channel's own tests of a command: program checks
+--     channelCauses         13, 10, 11, 12     the channel's own tests of a command: program checks; from 10 on in pieceCauses
 --     unitCauses            44, 43             the unit's tests of any command that it sees
 --     defineExtentCauses    20 to 26           the commands' own tests; from 22 on in extentCauses
 --     locateCauses          30 to 39           from 32 on in locationCauses, from 36 on in permissionCauses
@@ -17,7 +17,7 @@ use mathlib.Core.Bool.{Bool, true, false, not, _&&_, _||_}
 use mathlib.Core.List.{List, [], _∷_, _++_}
 use lib.ListN.{length}
 use Rattle.numbers.specs.Bits.{bit, anyBit}
-use Rattle.model.specs.declared.ccw.Ccw.{Ccw}
+use Rattle.model.specs.declared.ccw.Piece.{Piece}
 use Rattle.model.specs.declared.device.Device.{Device}
 use Rattle.model.specs.declared.extent.Extent.{Extent}
 use Rattle.model.specs.declared.extent.Located.{Located}
@@ -26,10 +26,11 @@ use Rattle.model.specs.declared.kind.Kind.the-variants.{Accepted, Progra
 use Rattle.model.specs.declared.state.Before.{Before}
 use Rattle.model.specs.declared.state.Before.the-variants.{Nothing, ReadIpl, Locate, Other}
 use Rattle.model.specs.State.{State}
-use Rattle.model.specs.Names.{NO-OPERATION, DEFINE-EXTENT, LOCATE, READ, WRITE, READ-IPL, SENSE, SENSE-TYPE, READ-LOG, chain-command, format, read-replicated}
+use Rattle.model.specs.Names.{NO-OPERATION, DEFINE-EXTENT, LOCATE, READ, WRITE, READ-IPL, SENSE, SENSE-TYPE, READ-LOG, chain-data, chain-command, format, read-replicated}
 use Rattle.numbers.specs.Choice.{_<?_, _=?_, pick, oneOf}
 use Rattle.model.specs.Rules.{Rule, _when_, firstOf}
-use Rattle.model.specs.Lent.{ccwSize, ccwAt, flag, fetched, blockCount, recordSize}
+use Rattle.model.specs.Lent.{ccwSize, pieceAt, flag, blockCount, recordSize}
+use Rattle.model.specs.Pieces.{Command, total, fetched}
 use Rattle.model.specs.Parameters.{extentLength, extentIn, reservedIn, sizeIn, locateLength, locatedIn, modifiersIn, replicationIn, processed, operations, reads, writes, forbids, address, outside}
 
 -- how a cause ends its command: 0 is acceptance; "Causes 10 to 13 are program checks .. All others are unit checks"
@@ -51,10 +52,10 @@ bytesRead cause =
 
 -- the call
 
--- each of the first n CCWs has flag 40
+-- "when no CCW lacks both flags 80 and 40, where the chain now ends": each of the first n CCWs has one of them
 unfoldable pub allChained : List ℕ → ℕ → Bool
 allChained chain zero = true
-allChained chain (suc n) = flag (ccwAt chain n) chain-command && allChained chain n
+allChained chain (suc n) = (flag (pieceAt chain n) chain-data || flag (pieceAt chain n) chain-command) && allChained chain n
 
 -- no CCW, more than 32, or a part of one
 abbrev pub badChain : ℕ → Bool
@@ -82,21 +83,34 @@ hostCauses dev chain main store unit answers = callCauses dev chain main store a
 abbrev pub noCommand : ℕ → Bool
 noCommand command = oneOf (0 ∷ 8 ∷ []) (command % 16)
 
--- a flag other than 40 and 20
+-- a flag other than 80, 40 and 20
 abbrev pub otherFlags : ℕ → Bool
-otherFlags flags = anyBit flags (0 ∷ 3 ∷ 4 ∷ 5 ∷ 6 ∷ 7 ∷ [])
+otherFlags flags = anyBit flags (3 ∷ 4 ∷ 5 ∷ 6 ∷ 7 ∷ [])
 
--- the data area leaves a main storage of so many bytes; NO-OPERATION has none
-abbrev pub leavesStorage : Ccw → ℕ → Bool
-leavesStorage c held = not (c .command =? NO-OPERATION) && held <? c .address + c .count
+-- a piece of this command's data area leaves a main storage of so many bytes; NO-OPERATION has none
+abbrev pub leavesStorage : ℕ → Piece → ℕ → Bool
+leavesStorage command p held = not (command =? NO-OPERATION) && held <? p .address + p .count
 
-unfoldable pub channelCauses : Ccw → List ℕ → List Rule
+-- one piece of a command, in a main storage of so many bytes
+abbrev pub pieceCauses : ℕ → ℕ → Piece → List Rule
+pieceCauses command held p =
+    10 when otherFlags (p .flags .0)
+    ∷ 11 when (p .count =? 0)
+    ∷ 12 when leavesStorage command p held
+    ∷ []
+
+-- "10, 11 and 12 are tested piece by piece": the first piece that one of them refuses; where none does, the last
+unfoldable pub testedOf : ℕ → ℕ → Piece → List Piece → Piece
+testedOf command held p [] = p
+testedOf command held p (q ∷ qs) = pick (firstOf (pieceCauses command held p) =? 0) (testedOf command held q qs) p
+
+abbrev pub tested : Command → ℕ → Piece
+tested c held = testedOf (c .command) held (c .first) (c .later)
+
+unfoldable pub channelCauses : Command → List ℕ → List Rule
 channelCauses c main =
     13 when noCommand (c .command)
-    ∷ 10 when otherFlags (c .flags .0)
-    ∷ 11 when (c .count =? 0)
-    ∷ 12 when leavesStorage c (length main)
-    ∷ []
+    ∷ pieceCauses (c .command) (length main) (tested c (length main))
 
 -- the unit
 
@@ -107,7 +121,7 @@ commands = NO-OPERATION ∷ DEFINE-EXTENT ∷ LOCATE ∷ READ ∷ WRITE ∷ READ
 abbrev pub notReady : ℕ → ℕ → Bool
 notReady ready command = ready =? 0 && not (oneOf (SENSE ∷ SENSE-TYPE ∷ []) command)
 
-unfoldable pub unitCauses : Ccw → State → List Rule
+unfoldable pub unitCauses : Command → State → List Rule
 unitCauses c s =
     44 when notReady (s .unit .ready) (c .command)
     ∷ 43 when not (oneOf commands (c .command))
@@ -137,9 +151,9 @@ extentCauses dev blocks p =
     ∷ 26 when pastDevice e blocks
     ∷ []
 
-unfoldable pub defineExtentCauses : Device → ℕ → Ccw → State → List ℕ → List Rule
+unfoldable pub defineExtentCauses : Device → ℕ → Command → State → List ℕ → List Rule
 defineExtentCauses dev blocks c s p =
-    20 when (c .count <? extentLength)
+    20 when (total c <? extentLength)
     ∷ 21 when s .defined
     ∷ extentCauses dev blocks p
 
@@ -181,10 +195,10 @@ locationRules s modifiers l replication =
 unfoldable pub locationCauses : State → List ℕ → List Rule
 locationCauses s p = locationRules s (modifiersIn p) (locatedIn p) (replicationIn p)
 
-unfoldable pub locateCauses : Ccw → State → List ℕ → List Rule
+unfoldable pub locateCauses : Command → State → List ℕ → List Rule
 locateCauses c s p =
     30 when not (s .defined)
-    ∷ 31 when (c .count <? locateLength)
+    ∷ 31 when (total c <? locateLength)
     ∷ locationCauses s p
 
 -- the command directly before
@@ -215,7 +229,7 @@ transferCauses follows s = transferRules (s .before) (follows (s .located .opera
 
 -- a command
 
-unfoldable pub ownCauses : Device → Ccw → State → List ℕ → List ℕ → List Rule
+unfoldable pub ownCauses : Device → Command → State → List ℕ → List ℕ → List Rule
 ownCauses dev c s main store =
     pick (c .command =? DEFINE-EXTENT) (defineExtentCauses dev (blockCount dev store) c s (fetched c main extentLength))
     (pick (c .command =? LOCATE) (locateCauses c s (fetched c main locateLength))
@@ -223,8 +237,8 @@ ownCauses dev c s main store =
     (pick (c .command =? READ) (transferCauses reads s)
     (pick (c .command =? WRITE) (transferCauses writes s) []))))
 
-unfoldable pub causesOf : Device → Ccw → State → List ℕ → List ℕ → List Rule
+unfoldable pub causesOf : Device → Command → State → List ℕ → List ℕ → List Rule
 causesOf dev c s main store = channelCauses c main ++ unitCauses c s ++ ownCauses dev c s main store
 
-unfoldable pub verdict : Device → Ccw → State → List ℕ → List ℕ → ℕ
+unfoldable pub verdict : Device → Command → State → List ℕ → List ℕ → ℕ
 verdict dev c s main store = firstOf (causesOf dev c s main store)

@@ -1,12 +1,12 @@
 -- The chain, and the call.
---     System   all that a chain works on: the state, main storage, the store, the answers, the commands reached
+--     System   all that a chain works on: the state, main storage, the store, the answers, how many of them were given
 --     next     the system after command i;  more   whether the chain goes on after it
 --     run      the chain from command i on, n commands at most
 --     start    the state at a chain's beginning
 --     callOf   01, What is lent and Causes: refused as a whole by 1 to 5, or the chain run, on a device; Called   what it gives
 --     classA   the device of every call of ours;  call   the call on it
 -- Assumes nothing.
-use Prim.Native.Nat.{ℕ, zero, suc, _+_, _*_, _/_}
+use Prim.Native.Nat.{ℕ, zero, suc, _+_, _*_}
 use mathlib.Core.Bool.{Bool, false}
 use mathlib.Core.List.{List}
 use lib.ListN.{length}
@@ -17,10 +17,10 @@ use Rattle.model.specs.declared.device.Device.{Device}
 use Rattle.model.specs.State.{State}
 use Rattle.numbers.specs.Choice.{_=?_, pick}
 use Rattle.model.specs.Rules.{firstOf}
-use Rattle.model.specs.Lent.{ccwSize, ccwAt}
+use Rattle.model.specs.Pieces.{commandsIn, commandAt}
 use Rattle.model.specs.Causes.{callCauses}
 use Rattle.model.specs.Commands.{Out, step}
-use Rattle.model.specs.Answer.{answerSize, answerOf, goesOn}
+use Rattle.model.specs.Answer.{answerSize, answersOf, answered, goesOn}
 
 pub record System : Type 0 where
   pub state : State
@@ -35,15 +35,17 @@ system s main store answers reached = record { state = s; main = main; store = s
 module _ (dev : Device) (chain : List ℕ) where
   -- what command i gives
   unfoldable pub stepAt : ℕ → System → Out
-  stepAt i y = step dev (ccwAt chain i) (y .state) (y .main) (y .store)
+  stepAt i y = step dev (commandAt chain i) (y .state) (y .main) (y .store)
 
+  -- its answers follow those that were given before
   unfoldable pub next : ℕ → System → System
   next i y =
       let o = stepAt i y in
-      system (o .done .state) (o .main) (o .store) (put (y .answers) (i * answerSize) (answerOf (ccwAt chain i) (o .done))) (i + 1)
+      let c = commandAt chain i in
+      system (o .done .state) (o .main) (o .store) (put (y .answers) (y .reached * answerSize) (answersOf c (o .done))) (y .reached + answered c (o .done))
 
   unfoldable pub more : ℕ → System → Bool
-  more i y = goesOn (ccwAt chain i) (stepAt i y .done)
+  more i y = goesOn (commandAt chain i) (stepAt i y .done)
 
   unfoldable pub run : ℕ → ℕ → System → System
   run zero i y = y
@@ -76,7 +78,7 @@ unfoldable pub callOf : Device → List ℕ → List ℕ → List ℕ → Record
 callOf dev chain main store u answers =
     let cause = firstOf (callCauses dev chain main store answers) in
     let y = system (start u) main store answers 0 in
-    called cause (pick (cause =? 0) (run dev chain (length chain / ccwSize) 0 y) y)
+    called cause (pick (cause =? 0) (run dev chain (length (commandsIn chain)) 0 y) y)
 
 -- Class A: blocks of 512 bytes
 abbrev pub classA : Device

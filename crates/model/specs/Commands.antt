@@ -18,7 +18,6 @@ use mathlib.Core.List.{List, [], _∷_}
 use lib.ListN.{take}
 use Rattle.numbers.specs.Choice.{_=?_, pick, oneOf}
 use Rattle.slices.specs.Parts.{zeros}
-use Rattle.model.specs.declared.ccw.Ccw.{Ccw}
 use Rattle.model.specs.declared.device.Device.{Device}
 use Rattle.model.specs.declared.extent.Extent.{Extent}
 use Rattle.model.specs.declared.extent.Located.{Located}
@@ -30,7 +29,8 @@ use Rattle.model.specs.declared.state.Before.the-variants.{ReadIpl, Loca
 use Rattle.model.specs.State.{State, Done}
 use Rattle.model.specs.Names.{NO-OPERATION, DEFINE-EXTENT, LOCATE, READ, WRITE, READ-IPL, SENSE, SENSE-TYPE, write-check, senseSize}
 use Rattle.model.specs.Rules.{firstOf}
-use Rattle.model.specs.Lent.{fetched, delivered, blockCount, blocksFrom, blocksInto}
+use Rattle.model.specs.Lent.{blockCount, blocksFrom, blocksInto}
+use Rattle.model.specs.Pieces.{Command, total, fetched, delivered}
 use Rattle.model.specs.Parameters.{extentLength, extentIn, locateLength, locatedIn, address}
 use Rattle.model.specs.Causes.{kindOf, bytesRead, ownCauses, verdict}
 use Rattle.model.specs.Sense.{shown, senseOf}
@@ -76,30 +76,30 @@ noOperation s main store = out (ended (after s (s .unit) Other) 0 0 0) main stor
 unfoldable pub defineDone : State → List ℕ → Done
 defineDone s p = ended (extentSet s (s .unit) (extentIn p) Other) extentLength extentLength 0
 
-unfoldable pub defineExtent : Ccw → State → List ℕ → List ℕ → Out
+unfoldable pub defineExtent : Command → State → List ℕ → List ℕ → Out
 defineExtent c s main store = out (defineDone s (fetched c main extentLength)) main store
 
 -- "A later LOCATE replaces an earlier one. It counts one access movement."
 unfoldable pub locateDone : State → List ℕ → Done
 locateDone s p = ended (locateSet s (movementCounted (s .unit)) (locatedIn p)) locateLength locateLength 0
 
-unfoldable pub locate : Ccw → State → List ℕ → List ℕ → Out
+unfoldable pub locate : Command → State → List ℕ → List ℕ → Out
 locate c s main store = out (locateDone s (fetched c main locateLength)) main store
 
 -- a command that can move so many of these bytes into its data area, and leaves that unit record
-unfoldable pub sent : Ccw → State → List ℕ → List ℕ → ℕ → List ℕ → Record → Out
+unfoldable pub sent : Command → State → List ℕ → List ℕ → ℕ → List ℕ → Record → Out
 sent c s main store can bytes u =
-    let n = min (c .count) can in
+    let n = min (total c) can in
     out (ended (after s u Other) n can 0) (delivered c main (take n bytes)) store
 
 -- "SENSE moves up to 24 bytes, then all sense is zero"
-unfoldable pub sense : Ccw → State → List ℕ → List ℕ → Out
+unfoldable pub sense : Command → State → List ℕ → List ℕ → Out
 sense c s main store = sent c s main store senseSize (s .unit .sense) (withSense (s .unit) (zeros senseSize))
 
-unfoldable pub senseType : Ccw → State → List ℕ → List ℕ → Out
+unfoldable pub senseType : Command → State → List ℕ → List ℕ → Out
 senseType c s main store = sent c s main store 7 (0xFF ∷ 0x00 ∷ 0x97 ∷ 0x01 ∷ 0x05 ∷ 0x12 ∷ 0x01 ∷ []) (s .unit)
 
-unfoldable pub readLog : Ccw → State → List ℕ → List ℕ → Out
+unfoldable pub readLog : Command → State → List ℕ → List ℕ → Out
 readLog c s main store = sent c s main store senseSize (logOf (s .unit)) (logReset (s .unit))
 
 -- the commands that move blocks: of `can` bytes that they can move, n
@@ -125,10 +125,10 @@ module _ (dev : Device) where
   canMove l = l .blocks * dev .block
 
   -- "READ moves up to 512 times the block count into the data area"
-  unfoldable pub read : Ccw → State → List ℕ → List ℕ → Out
+  unfoldable pub read : Command → State → List ℕ → List ℕ → Out
   read c s main store =
       let l = s .located in
-      let n = min (c .count) (canMove l) in
+      let n = min (total c) (canMove l) in
       let bytes = blocksFrom dev store (firstBlock (s .extent) l) (l .blocks) in
       out (readDone s n (canMove l)) (delivered c main (take n bytes)) store
 
@@ -140,10 +140,10 @@ module _ (dev : Device) where
       ended (after s u Other) n can (begun n)
 
   -- "WRITE moves up to as many bytes into the store"; 002, 2.3: what they leave of the LOCATE's blocks is filled with zeros
-  unfoldable pub write : Ccw → State → List ℕ → List ℕ → Out
+  unfoldable pub write : Command → State → List ℕ → List ℕ → Out
   write c s main store =
       let l = s .located in
-      let n = min (c .count) (canMove l) in
+      let n = min (total c) (canMove l) in
       out (writeDone s n (canMove l)) main (blocksInto dev store (firstBlock (s .extent) l) (l .blocks) (fetched c main n))
 
   -- READ IPL "counts one block read and one access movement, and sets an extent over the whole device"
@@ -151,12 +151,12 @@ module _ (dev : Device) where
   iplDone s n blocks = ended (extentSet s (movementCounted (readCounted 1 (s .unit))) (wholeDevice blocks) ReadIpl) n (dev .block) 1
 
   -- "READ IPL moves up to 512 bytes of block 0"
-  unfoldable pub readIpl : Ccw → State → List ℕ → List ℕ → Out
+  unfoldable pub readIpl : Command → State → List ℕ → List ℕ → Out
   readIpl c s main store =
-      let n = min (c .count) (dev .block) in
+      let n = min (total c) (dev .block) in
       out (iplDone s n (blockCount dev store)) (delivered c main (take n (blocksFrom dev store 0 1))) store
 
-  unfoldable pub accepted : Ccw → State → List ℕ → List ℕ → Out
+  unfoldable pub accepted : Command → State → List ℕ → List ℕ → Out
   accepted c s main store =
       pick (c .command =? NO-OPERATION) (noOperation s main store)
       (pick (c .command =? DEFINE-EXTENT) (defineExtent c s main store)
@@ -173,25 +173,25 @@ abbrev pub refusal : State → ℕ → List ℕ → Done
 refusal s cause sense = ending s cause sense (bytesRead cause) 0 0
 
 -- the sense of a cause that is given to this command
-abbrev pub senseGiven : ℕ → Ccw → List ℕ → List ℕ
+abbrev pub senseGiven : ℕ → Command → List ℕ → List ℕ
 senseGiven cause c main = senseOf cause (shown cause (fetched c main locateLength))
 
-unfoldable pub refused : Ccw → State → List ℕ → List ℕ → ℕ → Out
+unfoldable pub refused : Command → State → List ℕ → List ℕ → ℕ → Out
 refused c s main store cause = out (refusal s cause (senseGiven cause c main)) main store
 
 -- "Each command that the unit sees, other than 03 and 04, zeroes the pending sense before its tests"
 unfoldable pub cleared : State → State
 cleared s = after s (withSense (s .unit) (zeros senseSize)) (s .before)
 
-unfoldable pub seen : Ccw → State → State
+unfoldable pub seen : Command → State → State
 seen c s = after s (pick (oneOf (NO-OPERATION ∷ SENSE ∷ []) (c .command)) (s .unit) (cleared s .unit)) (s .before)
 
 -- accepted where no cause was given, refused by the cause where one was
-unfoldable pub decided : Ccw → State → List ℕ → List ℕ → ℕ → Out → Out
+unfoldable pub decided : Command → State → List ℕ → List ℕ → ℕ → Out → Out
 decided c s main store cause done = pick (cause =? 0) done (refused c s main store cause)
 
-unfoldable pub performed : Device → Ccw → State → List ℕ → List ℕ → Out
+unfoldable pub performed : Device → Command → State → List ℕ → List ℕ → Out
 performed dev c s main store = decided c s main store (firstOf (ownCauses dev c s main store)) (accepted dev c (seen c s) main store)
 
-unfoldable pub step : Device → Ccw → State → List ℕ → List ℕ → Out
+unfoldable pub step : Device → Command → State → List ℕ → List ℕ → Out
 step dev c s main store = decided c s main store (verdict dev c s main store) (accepted dev c (seen c s) main store)

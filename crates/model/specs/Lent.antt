@@ -1,7 +1,6 @@
 -- What is lent (01, What is lent), and how each of it is reached.
---     ccwAt, ccwSize          a CCW of the chain, taken apart, and its bytes
+--     codeAt, pieceAt, ccwSize  a CCW of the chain, taken apart: its command byte and its piece of a data area; and its bytes
 --     flag                    a flag of a CCW is on
---     fetched, delivered      bytes from, and to, a command's data area in main storage
 --     blockStart              where a block of the store begins; blocks are reached by this and by nothing else
 --     blockCount              the device's blocks
 --     blockAt                 the bytes of a block: what READ shows of it
@@ -17,7 +16,7 @@ use lib.ListN.{length, getD, drop}
 use Rattle.numbers.specs.Bits.{bit}
 use Rattle.numbers.specs.Big.{be2, be3}
 use Rattle.slices.specs.Parts.{part, put, pad, zeros}
-use Rattle.model.specs.declared.ccw.Ccw.{Ccw}
+use Rattle.model.specs.declared.ccw.Piece.{Piece}
 use Rattle.model.specs.declared.record.Record.{Record}
 use Rattle.model.specs.declared.device.Device.{Device}
 use Rattle.model.specs.Names.{senseSize}
@@ -26,20 +25,16 @@ use Rattle.model.specs.Names.{senseSize}
 abbrev pub ccwSize : ℕ
 ccwSize = 8
 
-unfoldable pub ccwAt : List ℕ → ℕ → Ccw
-ccwAt chain i =
+unfoldable pub codeAt : List ℕ → ℕ → ℕ
+codeAt chain i = getD chain (i * ccwSize) 0
+
+unfoldable pub pieceAt : List ℕ → ℕ → Piece
+pieceAt chain i =
     let at = i * ccwSize in
-    record { command = getD chain at 0; address = be3 chain (at + 1); flags = record { 0 = getD chain (at + 4) 0 }; count = be2 chain (at + 6) }
+    record { address = be3 chain (at + 1); flags = record { 0 = getD chain (at + 4) 0 }; count = be2 chain (at + 6) }
 
-unfoldable pub flag : Ccw → ℕ → Bool
-flag c n = bit (c .flags .0) n
-
--- Main storage: "A command's data area is its count of bytes from its address"
-unfoldable pub fetched : Ccw → List ℕ → ℕ → List ℕ
-fetched c main n = part main (c .address) n
-
-unfoldable pub delivered : Ccw → List ℕ → List ℕ → List ℕ
-delivered c main bytes = put main (c .address) bytes
+unfoldable pub flag : Piece → ℕ → Bool
+flag p n = bit (p .flags .0) n
 
 -- Store: "A block is the 512 bytes that begin at 512 times its number"
 module _ (dev : Device) where

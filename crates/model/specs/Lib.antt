@@ -1,6 +1,7 @@
 pub mod Names
 pub mod Rules
 pub mod Lent
+pub mod Pieces
 pub mod State
 pub mod Parameters
 pub mod Causes
@@ -10,6 +11,7 @@ pub mod Commands
 pub mod Answer
 pub mod Chain
 pub mod Host
+pub mod Decoded
 pub mod Safe
 pub mod Exactly
 pub mod Reached

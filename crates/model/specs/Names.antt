@@ -38,7 +38,10 @@ SENSE-TYPE = 0xE4
 abbrev pub READ-LOG : ℕ
 READ-LOG = 0xA4
 
--- flags of a CCW, as bits of its byte 4: 40 and 20
+-- flags of a CCW, as bits of its byte 4: 80, 40 and 20
+
+abbrev pub chain-data : ℕ
+chain-data = 0
 
 abbrev pub chain-command : ℕ
 chain-command = 1

@@ -1,7 +1,8 @@
--- What functions hand on from one to the other: a device, a CCW, and a state of a chain that stays on the device. No way in asks for it.
+-- What functions hand on from one to the other: a device, a data area, and a state of a chain that stays on the device. No way in asks for it.
 --     Usable     a device that a chain may run on: a block has 1 to 65,535 bytes
---     CcwFits    the numbers of a CCW are no larger than their bytes hold
---     InArea     n bytes of a command's data area, from a place in it on, are in main storage
+--     PieceFits  the numbers of a piece are no larger than their bytes hold
+--     Inside     each piece is in main storage
+--     InArea     n bytes are left of a command's data area, and all of it is in main storage
 --     OnDevice   the extent is in order, and its last block is one of the device's
 --     InExtent   the blocks of a LOCATE are in the extent
 --     Safe       the extent that stands is on the device, and the LOCATE directly before is in it
@@ -9,26 +10,35 @@
 use Prim.Native.Nat.{ℕ, _+_, _≤_, _<_}
 use mathlib.Core.Path.{_≡_}
 use mathlib.Core.Bool.{true}
-use mathlib.Core.List.{List}
+use mathlib.Core.List.{List, [], _∷_}
 use lib.ListN.{length}
-use Rattle.model.specs.declared.ccw.Ccw.{Ccw}
+use Rattle.model.specs.declared.ccw.Piece.{Piece}
+use Rattle.model.specs.declared.decoded.Area.{Area}
 use Rattle.model.specs.declared.device.Device.{Device}
 use Rattle.model.specs.declared.extent.Extent.{Extent}
 use Rattle.model.specs.declared.extent.Located.{Located}
 use Rattle.model.specs.State.{State}
 use Rattle.model.specs.Parameters.{address}
+use Rattle.model.specs.Pieces.{counts}
+use Rattle.model.specs.Decoded.{areaOf, Stands}
 use Rattle.model.specs.Causes.{a-locate}
 
 pub record Usable (dev : Device) : Type 0 where
   pub some-size : 1 ≤ dev .block
   pub small-size : dev .block ≤ 65535
 
-pub record CcwFits (c : Ccw) : Type 0 where
-  pub count : c .count < 65536
-  pub address : c .address < 16777216
+pub record PieceFits (p : Piece) : Type 0 where
+  pub count : p .count < 65536
+  pub address : p .address < 16777216
 
-pub record InArea (c : Ccw) (main : List ℕ) (from n : ℕ) : Type 0 where
-  pub inside : c .address + (from + n) ≤ length main
+abbrev pub Inside : List Piece → List ℕ → Type 0
+Inside [] main = Unit {0}
+Inside (p ∷ ps) main = (p .address + p .count ≤ length main) × Inside ps main
+
+pub record InArea (chain : List ℕ) (a : Area) (main : List ℕ) (n : ℕ) : Type 0 where
+  pub ccws : Stands chain a
+  pub inside : Inside (areaOf chain a) main
+  pub left : n ≤ counts (areaOf chain a)
 
 pub record OnDevice (e : Extent) (blocks : ℕ) : Type 0 where
   pub order : e .first .0 ≤ e .last .0

@@ -30,5 +30,5 @@ impl Extent {
 pub struct Located {
     pub operation: u32,
     pub displacement: Displacement,
-    pub blocks: usize,
+    pub blocks: u16,
 }

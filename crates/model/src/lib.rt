@@ -2,6 +2,7 @@
 pub mod answer;
 pub mod ccw;
 pub mod command;
+pub mod decoded;
 pub mod device;
 pub mod extent;
 pub mod kind;

@@ -93,7 +93,7 @@ pub part-between : (p q r : List ℕ) (at n : ℕ) → length p ≡ at → lengt
 unfolding part
 part-between p q r at n e f = rw (drop-at p (q ++ r) at e) (take-at q r n f)
 
-part-length : (l : List ℕ) (at n : ℕ) → length (part l at n) ≡ min n (length l - at)
+pub part-length : (l : List ℕ) (at n : ℕ) → length (part l at n) ≡ min n (length l - at)
 unfolding part
 part-length l at n = simp (length-take, length-drop) (omega arith)
 
@@ -123,17 +123,9 @@ take-part l at n = sym (take-add at n l)
 
 -- no byte, and more bytes after some
 
-pub part-nil : (l : List ℕ) (at : ℕ) → part l at 0 ≡ []
-unfolding part
-part-nil l at = refl
-
 pub put-nil : (l : List ℕ) (at : ℕ) → put l at [] ≡ l
 unfolding put
 put-nil l at = rw (add-zero, append-nil, take-append-drop)
-
-pub part-more : (l : List ℕ) (at m n : ℕ) → part l at (m + n) ≡ part l at m ++ part l (at + m) n
-unfolding part
-part-more l at m n = rw (take-add, drop-drop)
 
 pub put-more : (l : List ℕ) (at : ℕ) (bytes more : List ℕ) → at ≤ length l → put (put l at bytes) (at + length bytes) more ≡ put l at (bytes ++ more)
 unfolding put
@@ -144,11 +136,6 @@ put-more l at bytes more h =
     rw (take-at front (drop n l) n e, ← drop-drop (length more) n (front ++ drop n l), drop-at front (drop n l) n e, drop-drop, length-append, ← add-assoc) (simp append-assoc)
 
 -- the first byte of a part, and the rest of it
--- a part put back where it was
-pub put-part : (l : List ℕ) (at n : ℕ) → at + n ≤ length l → put l at (part l at n) ≡ l
-unfolding put
-put-part l at n h = rw (take-part l at n, length-part l at n h) (take-append-drop (at + n) l)
-
 pub part-cons : (l : List ℕ) (at n : ℕ) → at < length l → part l at (suc n) ≡ getD l at 0 ∷ part l (at + 1) n
 unfolding part
 part-cons l at n h = rw (drop-cons l at 0 h, add-one)

@@ -1,16 +1,28 @@
--- A place in a command's data area, counted from its first byte: what is fetched from there on, and delivered there. The area itself is
--- that of `fetched` and `delivered`, and of nothing else.
---     fetchedFrom     n bytes from a place on: those that are fetched after the first so many
---     deliveredFrom   bytes from a place on: delivered after the first so many, which stay
+-- What is left of a data area once some of its bytes were used.
+--     trimmed   an area whose first piece has lost n bytes
+--     beyond    the pieces behind the first n bytes
+--     Rest      an area is what is left of another behind its first n bytes
 -- Assumes nothing.
-use Prim.Native.Nat.{ℕ, _+_}
-use mathlib.Core.List.{List, _++_}
-use lib.ListN.{drop}
-use Rattle.model.specs.declared.ccw.Ccw.{Ccw}
-use Rattle.model.specs.Lent.{fetched, delivered}
+use Prim.Native.Nat.{ℕ, _+_, _-_}
+use mathlib.Core.Path.{_≡_}
+use mathlib.Core.List.{List, [], _∷_}
+use Rattle.numbers.specs.Choice.{_<?_, pick}
+use Rattle.model.specs.declared.ccw.Piece.{Piece}
+use Rattle.model.specs.declared.decoded.Area.{Area}
+use Rattle.model.specs.Decoded.{areaOf, Stands}
 
-unfoldable pub fetchedFrom : Ccw → List ℕ → ℕ → ℕ → List ℕ
-fetchedFrom c main from n = drop from (fetched c main (from + n))
+abbrev pub trimmedPiece : Piece → ℕ → Piece
+trimmedPiece p n = record { address = p .address + n; count = p .count - n; flags = p .flags }
 
-unfoldable pub deliveredFrom : Ccw → List ℕ → ℕ → List ℕ → List ℕ
-deliveredFrom c main from bytes = delivered c main (fetched c main from ++ bytes)
+abbrev pub trimmed : Area → ℕ → Area
+trimmed a n = record { piece = trimmedPiece (a .piece) n; next = a .next; end = a .end }
+
+-- a piece stays, empty, until a byte behind it is asked for
+unfoldable pub beyond : ℕ → List Piece → List Piece
+beyond n [] = []
+beyond n (p ∷ ps) = pick (p .count <? n) (beyond (n - p .count) ps) (trimmedPiece p n ∷ ps)
+
+pub record Rest (chain : List ℕ) (a : Area) (n : ℕ) (r : Area) : Type 0 where
+  pub pieces : areaOf chain r ≡ beyond n (areaOf chain a)
+  pub ccws : Stands chain r
+  pub end : r .end ≡ a .end

@@ -9,12 +9,13 @@ use mathlib.Core.List.{List, [], _∷_, _++_}
 use native.Mathlib.Omega.{arith}
 use borrow.Author.Tests.{ne-eqb}
 use Rattle.numbers.specs.Choice.{_=?_, oneOf, pick}
-use Rattle.model.specs.declared.ccw.Ccw.{Ccw}
+use Rattle.model.specs.declared.decoded.Decoded.{Decoded}
 use Rattle.model.specs.declared.device.Device.{Device}
 use Rattle.model.specs.declared.record.Record.{Record}
 use Rattle.model.specs.Names.{NO-OPERATION, SENSE, SENSE-TYPE}
 use Rattle.model.specs.Rules.{firstOf}
 use Rattle.model.specs.Causes.{bytesRead, commands, channelCauses, unitCauses}
+use Rattle.model.specs.Decoded.{commandOf, Decodes}
 use Rattle.model.specs.Log.{withSense, withCounts}
 use Rattle.model.specs.Commands.{out, ended, noOperation, performed, step}
 use Rattle.model.proofs.Verdicts.{first-here, first-later, first-none}
@@ -35,34 +36,34 @@ unfolding noOperation stateOf
 passed-out u s main store = rw (passed-on u s) refl
 
 -- the state is sound: that names the device and the store
-module _ {dev : Device} {u : Record} {c : Ccw} {s : Running} (main : List ℕ) {store : List ℕ} {r : Ended} (sound : Sound dev s store) where
+module _ {dev : Device} {u : Record} {chain : List ℕ} {c : Decoded} {s : Running} (main : List ℕ) {store : List ℕ} {r : Ended} (sound : Sound dev s store) (told : Decodes chain c) where
   -- refused before its own table is read, by a cause that has read nothing
-  stopped : (w : ℕ) → firstOf (channelCauses c main ++ unitCauses c (stateOf u s)) ≡ w → (w ≡ 0 → ⊥) → bytesRead w ≡ 0 → r ≡ refusedEnd c s w
-      → Ends u c s r main store (step dev c (stateOf u s) main store)
-  stopped w e n k f = rw (step-early dev c (stateOf u s) main store w e n) (unread-ends u c s main store w r f k n)
+  stopped : (w : ℕ) → firstOf (channelCauses (commandOf chain c) main ++ unitCauses (commandOf chain c) (stateOf u s)) ≡ w → (w ≡ 0 → ⊥) → bytesRead w ≡ 0 → r ≡ refusedEnd c s w
+      → Ends u (commandOf chain c) s r main store (step dev (commandOf chain c) (stateOf u s) main store)
+  stopped w e n k f = rw (step-early dev (commandOf chain c) (stateOf u s) main store w e n) (unread-ends u chain c told s main store w r f k n)
 
-  pub by-channel : {w : ℕ} → w ≡ firstOf (channelCauses c main) → (w ≡ 0 → ⊥) → r ≡ refusedEnd c s w → Ends u c s r main store (step dev c (stateOf u s) main store)
+  pub by-channel : {w : ℕ} → w ≡ firstOf (channelCauses (commandOf chain c) main) → (w ≡ 0 → ⊥) → r ≡ refusedEnd c s w → Ends u (commandOf chain c) s r main store (step dev (commandOf chain c) (stateOf u s) main store)
   unfolding channelCauses bytesRead oneOf pick
-  by-channel {w} e n = stopped w (early-channel dev c (stateOf u s) main store w (sym e) n) n (rw (sym e) at (table-reads 0 (channelCauses c main) refl (rw (sym e) (ne-eqb _ _ n))))
+  by-channel {w} e n = stopped w (early-channel dev (commandOf chain c) (stateOf u s) main store w (sym e) n) n (rw (sym e) at (table-reads 0 (channelCauses (commandOf chain c) main) refl (rw (sym e) (ne-eqb _ _ n))))
 
-  pub by-ready : firstOf (channelCauses c main) ≡ 0 → u .ready =? 0 && not (oneOf (SENSE ∷ SENSE-TYPE ∷ []) (c .command)) ≡ true → r ≡ refusedEnd c s 44
-      → Ends u c s r main store (step dev c (stateOf u s) main store)
+  pub by-ready : firstOf (channelCauses (commandOf chain c) main) ≡ 0 → u .ready =? 0 && not (oneOf (SENSE ∷ SENSE-TYPE ∷ []) (c .command)) ≡ true → r ≡ refusedEnd c s 44
+      → Ends u (commandOf chain c) s r main store (step dev (commandOf chain c) (stateOf u s) main store)
   unfolding unitCauses stateOf unitOf counted withCounts withSense bytesRead oneOf pick
-  by-ready e b = stopped 44 (early-unit dev c (stateOf u s) main store 44 e (first-here _ _ b)) (λ z. omega arith) refl
+  by-ready e b = stopped 44 (early-unit dev (commandOf chain c) (stateOf u s) main store 44 e (first-here _ _ b)) (λ z. omega arith) refl
 
-  module _ (seen : Received c u main) where
-    pub by-list : oneOf commands (c .command) ≡ false → r ≡ refusedEnd c s 43 → Ends u c s r main store (step dev c (stateOf u s) main store)
+  module _ (seen : Received (commandOf chain c) u main) where
+    pub by-list : oneOf commands (c .command) ≡ false → r ≡ refusedEnd c s 43 → Ends u (commandOf chain c) s r main store (step dev (commandOf chain c) (stateOf u s) main store)
     unfolding unitCauses stateOf unitOf counted withCounts withSense bytesRead oneOf pick
-    by-list b = stopped 43 (early-unit dev c (stateOf u s) main store 43 (seen .channel) (first-later _ _ (seen .ready) ∙ first-here _ _ (ap not b))) (λ z. omega arith) refl
+    by-list b = stopped 43 (early-unit dev (commandOf chain c) (stateOf u s) main store 43 (seen .channel) (first-later _ _ (seen .ready) ∙ first-here _ _ (ap not b))) (λ z. omega arith) refl
 
-    pub by-own : {k : ℕ} {main′ store′ : List ℕ} → c .command ≡ k → oneOf commands k ≡ true → Ends u c s r main′ store′ (performed dev c (stateOf u s) main store)
-        → Ends u c s r main′ store′ (step dev c (stateOf u s) main store)
+    pub by-own : {k : ℕ} {main′ store′ : List ℕ} → c .command ≡ k → oneOf commands k ≡ true → Ends u (commandOf chain c) s r main′ store′ (performed dev (commandOf chain c) (stateOf u s) main store)
+        → Ends u (commandOf chain c) s r main′ store′ (step dev (commandOf chain c) (stateOf u s) main store)
     unfolding unitCauses stateOf unitOf counted withCounts withSense
     by-own e l h =
-        rw (step-performed dev c (stateOf u s) main store (early-unit dev c (stateOf u s) main store 0 (seen .channel) (first-later _ _ (seen .ready) ∙ first-later _ _ (rw (e, l) refl) ∙ first-none))) h
+        rw (step-performed dev (commandOf chain c) (stateOf u s) main store (early-unit dev (commandOf chain c) (stateOf u s) main store 0 (seen .channel) (first-later _ _ (seen .ready) ∙ first-later _ _ (rw (e, l) refl) ∙ first-none))) h
 
-    pub no-operation-ends : c .command ≡ NO-OPERATION → r ≡ acceptedEnd c (passedOn s) 0 0 0 → Ends u c s r main store (step dev c (stateOf u s) main store)
+    pub no-operation-ends : c .command ≡ NO-OPERATION → r ≡ acceptedEnd c (passedOn s) 0 0 0 → Ends u (commandOf chain c) s r main store (step dev (commandOf chain c) (stateOf u s) main store)
     unfolding oneOf
     no-operation-ends e f =
         by-own e refl
-        (rw (performed-as dev c (stateOf u s) main store .no-operation e, passed-out u s main store) (accepted-ends u c s main store (passedOn s) 0 0 0 r main store _ f (rw e (sym (and-true (s .kept)))) refl refl refl))
+        (rw (performed-as dev (commandOf chain c) (stateOf u s) main store .no-operation e, passed-out u s main store) (accepted-ends u chain c told s main store (passedOn s) 0 0 0 r main store _ f (rw e (sym (and-true (s .kept)))) refl refl refl))

@@ -11,8 +11,8 @@ use command_transfer::write;
 use endings::Ended;
 use endings::accept;
 use endings::refuse;
-use model::ccw::Ccw;
 use model::command;
+use model::decoded::Decoded;
 use model::device::Device;
 use model::record::Record;
 use unit_state::Running;
@@ -21,7 +21,7 @@ ghost use mathlib.Core.Path.{_≡_};
 ghost use Rattle.model.specs.Names.{NO-OPERATION};
 ghost use Rattle.model.specs.Causes.{notReady};
 ghost use Rattle.model.specs.Commands.{step};
-ghost use Rattle.model.specs.Safe.{CcwFits};
+ghost use Rattle.model.specs.Decoded.{commandOf, Decodes};
 ghost use Rattle.unit_state.specs.Standing.{stateOf, Sound, Handed};
 ghost use Rattle.endings.specs.Ending.{Ends};
 ghost use Rattle.unit.specs.Received.{Received};
@@ -40,29 +40,45 @@ fn not_ready(code: u8, ready: u8) -> bool
 }
 
 // A command other than NO-OPERATION that the channel passed on to a unit that is ready for it.
-fn perform(d: Device, u: Record, c: Ccw, s: Running, main: &mut [u8], store: &mut [u8]) -> Ended
-    requires { ⌜ Sound d s (now store) × Handed c (now main) × Received c u (now main) × (c .command ≡ NO-OPERATION → ⊥) ⌝ }
-    ensures { λ r. ⌜ Ends u c s r (now (main .exit)) (now (store .exit)) (step d c (stateOf u s) (now (main .entry)) (now (store .entry))) ⌝ }
+fn perform(
+    d: Device,
+    u: Record,
+    chain: &[u8],
+    c: Decoded,
+    s: Running,
+    main: &mut [u8],
+    store: &mut [u8],
+) -> Ended
+    requires { ⌜ Sound d s (now store) × Handed (now chain) c (now main) × Received (commandOf (now chain) c) u (now main) × (c .command ≡ NO-OPERATION → ⊥) ⌝ }
+    ensures { λ r. ⌜ Ends u (commandOf (now (chain .entry)) c) s r (now (main .exit)) (now (store .exit)) (step d (commandOf (now (chain .entry)) c) (stateOf u s) (now (main .entry)) (now (store .entry))) ⌝ }
 {
     let code = c.command;
     match code {
-        command::DEFINE_EXTENT => define_extent(d, c, s, main, store),
-        command::LOCATE => locate(u, c, s, main),
-        command::READ => read(d, c, s, main, store),
-        command::WRITE => write(d, c, s, main, store),
-        command::READ_IPL => read_ipl(d, c, s, main, store),
-        command::SENSE => sense(u, c, s, main),
-        command::SENSE_TYPE => sense_type(c, s, main),
-        command::READ_LOG => read_log(c, s, main),
+        command::DEFINE_EXTENT => define_extent(d, chain, c, s, main, store),
+        command::LOCATE => locate(u, chain, c, s, main),
+        command::READ => read(d, chain, c, s, main, store),
+        command::WRITE => write(d, chain, c, s, main, store),
+        command::READ_IPL => read_ipl(d, chain, c, s, main, store),
+        command::SENSE => sense(u, chain, c, s, main),
+        command::SENSE_TYPE => sense_type(chain, c, s, main),
+        command::READ_LOG => read_log(chain, c, s, main),
         _ => refuse(c, s, 43),
     }
 }
 
-pub fn step(d: Device, u: Record, c: Ccw, s: Running, main: &mut [u8], store: &mut [u8]) -> Ended
-    requires { ⌜ Sound d s (now store) × CcwFits c ⌝ }
-    ensures { λ r. ⌜ Ends u c s r (now (main .exit)) (now (store .exit)) (step d c (stateOf u s) (now (main .entry)) (now (store .entry))) ⌝ }
+pub fn step(
+    d: Device,
+    u: Record,
+    chain: &[u8],
+    c: Decoded,
+    s: Running,
+    main: &mut [u8],
+    store: &mut [u8],
+) -> Ended
+    requires { ⌜ Sound d s (now store) × Decodes (now chain) c ⌝ }
+    ensures { λ r. ⌜ Ends u (commandOf (now (chain .entry)) c) s r (now (main .exit)) (now (store .exit)) (step d (commandOf (now (chain .entry)) c) (stateOf u s) (now (main .entry)) (now (store .entry))) ⌝ }
 {
-    let cause = channel_cause(c, main);
+    let cause = channel_cause(chain, c, main);
     if cause != 0 {
         return refuse(c, s, cause);
     }
@@ -72,5 +88,5 @@ pub fn step(d: Device, u: Record, c: Ccw, s: Running, main: &mut [u8], store: &m
     if c.command == command::NO_OPERATION {
         return accept(c, passed(s), 0, 0, 0);
     }
-    perform(d, u, c, s, main, store)
+    perform(d, u, chain, c, s, main, store)
 }

@@ -5,14 +5,14 @@
 --     senseNow, unitOf, stateOf   the pending sense, the unit record and the state that a `Running` stands for
 --     stateLeft                   the state that a `Left` stands for: how its cause leaves the one that is carried
 --     Sound                       a device that a chain may run on, and a state that is safe on it, whatever record the chain found
---     Handed                      the CCW of a command that the channel passed on: its data area is in main storage
+--     Handed                      a command of this chain that the channel passed on: each of its pieces is in main storage
 -- The run, the unit and the commands ask each other for `Sound` and `Handed`. Assumes nothing.
 use Prim.Native.Nat.{ℕ, _≤_}
 use mathlib.Core.Bool.{Bool, true, false}
 use mathlib.Core.List.{List}
 use Rattle.numbers.specs.Choice.{pick}
 use Rattle.slices.specs.Parts.{zeros}
-use Rattle.model.specs.declared.ccw.Ccw.{Ccw}
+use Rattle.model.specs.declared.decoded.Decoded.{Decoded}
 use Rattle.model.specs.declared.device.Device.{Device}
 use Rattle.model.specs.declared.extent.Extent.{Extent}
 use Rattle.model.specs.declared.extent.Located.{Located}
@@ -25,7 +25,8 @@ use Rattle.model.specs.Lent.{blockCount}
 use Rattle.model.specs.Causes.{kindOf}
 use Rattle.model.specs.Log.{withSense}
 use Rattle.model.specs.Commands.{leaves}
-use Rattle.model.specs.Safe.{Usable, CcwFits, InArea, Safe}
+use Rattle.model.specs.Decoded.{areaOf, Decodes}
+use Rattle.model.specs.Safe.{Usable, Inside, Safe}
 use Rattle.model.specs.Names.{senseSize}
 use Rattle.log.specs.Counts.{countsOf, counted}
 use Rattle.sense_table.specs.Sensed.{senseBytes}
@@ -72,6 +73,6 @@ pub record Sound (dev : Device) (s : Running) (store : List ℕ) : Type 0 where
   pub few-blocks : blockCount dev store ≤ 131072
   pub safe : (u : Record) → Safe (stateOf u s) (blockCount dev store)
 
-pub record Handed (c : Ccw) (main : List ℕ) : Type 0 where
-  pub ccw : CcwFits c
-  pub area : InArea c main 0 (c .count)
+pub record Handed (chain : List ℕ) (c : Decoded) (main : List ℕ) : Type 0 where
+  pub told : Decodes chain c
+  pub inside : Inside (areaOf chain (c .area)) main

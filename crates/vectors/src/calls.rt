@@ -107,14 +107,14 @@ pub const VECTORS: [u64; 98] = [
     LAST_NOOP,
     LAST_NOOP,
     0xA_0008_0008,
-    // 1.11 Both CCWs have flag 40, so no CCW ends the chain: cause 5. The SENSE TYPE in front does
-    // not run: main storage stays, and so does sense.
+    // 1.11 Both CCWs have flag 40, so no CCW lacks both 80 and 40 and ends the chain: cause 5. The
+    // SENSE TYPE in front does not run: main storage stays, and so does sense. (Flag 80: 8.37 on.)
     0x04_0010_0010_0007_01,
     0xE4_000000_40_00_0007,
     NOOP,
     0xD_0000_0007,
-    // 1.12 The first CCW lacks flag 40 and the second has it: some CCW lacks it, so no cause 5, and
-    // the chain ends at the first.
+    // 1.12 The first CCW lacks both and the second has flag 40: no cause 5, and the chain ends at the
+    // first.
     0x04_0010_0010_0000_00,
     LAST_NOOP,
     NOOP,

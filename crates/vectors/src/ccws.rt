@@ -1,5 +1,5 @@
 // The CCWs that lead up to what a vector is about. A CCW is one word: command, data address, flags,
-// a byte that is ignored, count. LAST_ has no flag 40, and so ends its chain.
+// a byte that is ignored, count. LAST_ has neither flag 80 nor flag 40, and so ends its chain.
 // Parameters stand at the start of main storage: 16 bytes for DEFINE EXTENT at 0, 8 for LOCATE at
 // 16, 8 for a second LOCATE at 24. Data begins at 32.
 

@@ -4,7 +4,7 @@
 use crate::ccws::LAST_DEFINE;
 use crate::ccws::LAST_NOOP;
 
-pub const VECTORS: [u64; 39] = [
+pub const VECTORS: [u64; 40] = [
     // 2.1 Command 01: its low four bits are neither 0 nor 8, so the unit sees it. It is not listed:
     // 43, sense 80 00 01.
     0x00_0008_0008_0001_00,
@@ -15,9 +15,11 @@ pub const VECTORS: [u64; 39] = [
     // 2.3 Command 08, low four bits 8 (transfer in channel, which 01 leaves out): 13.
     0x04_0008_0008_0001_00,
     0x08_000000_00_00_0001,
-    // 2.4 NO-OPERATION with flag 80 (data chaining): 10.
-    0x04_0008_0008_0000_00,
-    0x03_000000_80_00_0001,
+    // 2.4 NO-OPERATION with flag 80 (data chaining), and its second piece: 10 does not cover flag 80
+    // (02, ask 2). The first piece alone is reached, and its own count is left.
+    0x04_0010_0010_0000_00,
+    0x03_000000_80_00_0002,
+    LAST_NOOP,
     // 2.5 NO-OPERATION with flag 10, the bit next to flag 20: 10.
     0x04_0008_0008_0000_00,
     0x03_000000_10_00_0001,
@@ -50,9 +52,9 @@ pub const VECTORS: [u64; 39] = [
     0x04_0008_0008_0020_01,
     0xE4_000019_00_00_0007,
     0xD_0019_0007,
-    // 2.13 Command 00 with flag 80 and count 0: 13 comes before 10 and 11.
+    // 2.13 Command 00 with flag 10 and count 0: 13 comes before 10 and 11.
     0x00_0008_0008_0001_00,
-    0x00_000000_80_00_0000,
+    0x00_000000_10_00_0000,
     // 2.14 READ at FFFFFF with count 0: 11 comes before 12.
     0x00_0008_0008_0000_00,
     0x42_FFFFFF_00_00_0000,

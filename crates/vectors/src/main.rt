@@ -15,16 +15,18 @@
 // A place to show is what (A answers, B store, C the record's counts, D main storage, E all sense),
 // where (4 digits), and how many bytes (4 digits).
 //
-// A line has the vector's number, the call's cause, the commands reached, for each of these its
-// answer (both statuses, residual, cause and a zero, blocks moved; hexadecimal, so that cause 20 is
-// 14), sense bytes 0, 1 and 7, of a refused call whether the record was kept, and what was to be shown. Counts are blocks read, blocks written with
-// check, access movements.
+// A line has the vector's number, the call's cause, the commands reached (each piece reached counts as
+// one), for each of these its answer (both statuses, residual, cause and a zero, blocks moved;
+// hexadecimal, so that cause 20 is 14), sense bytes 0, 1 and 7, of a refused call whether the record
+// was kept, and what was to be shown. Counts are blocks read, blocks written with check, access
+// movements.
 mod calls;
 mod ccws;
 mod checks;
 mod extents;
 mod listed;
 mod locates;
+mod pieces;
 mod play;
 mod senses;
 mod show;
@@ -47,4 +49,5 @@ fn main() {
         &transfers::VECTORS,
     );
     play::group(7, b"SENSE, SENSE TYPE and the log", &senses::VECTORS);
+    play::group(8, b"Data chaining: commands in pieces", &pieces::VECTORS);
 }

@@ -9,14 +9,17 @@ returns : tie.Need-returns
 unfolding blockAt
 returns c =
     let span = c .before .before .before .before .before .place .ensures in
-    rw (span .1, part-lent, span .0) at (c .before .before .deliver .ensures)
+    let delivered = c .before .before .deliver .ensures in
+    (rw (span .1, part-lent, span .0) at (delivered .0), delivered .1)
 
 pub read-block-spec : {M : Type 1} → statement M
-read-block-spec = tie.close (tie.spec
+read-block-spec =
+    tie.close
+    (tie.spec
     (search needs)  -- place-requires
     (search needs)  -- sub-deliver
     (search needs)  -- part-deliver-start
     (search needs)  -- part-deliver-end
-    (search needs)  -- deliver-requires
+    (λ c κs. search needs)  -- deliver-requires
     (search needs)  -- same-length
     returns)

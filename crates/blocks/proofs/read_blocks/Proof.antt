@@ -1,71 +1,84 @@
--- `read_blocks` meets its contract. Before block i the data area has the bytes of the blocks before it; `n - from` falls.
+-- `read_blocks` meets its contract. Before each block, delivering the bytes that are left of the blocks that are left makes the whole; the blocks left fall.
 -- Assumes nothing.
 use Prim.Native.Nat.{_+_, _-_, _*_, _≤_, _<_}
-use mathlib.Core.Path.{_≡_, refl, sym}
+use mathlib.Core.Path.{_≡_, refl, _∙_}
 use lib.ListN.{length, take}
-use native.Mathlib.Nat.{zero-mul}
 use native.Mathlib.Omega.{arith}
+use Rattle.model.specs.Lent.{blocksFrom}
+use Rattle.model.specs.Pieces.{scattered}
+use Rattle.model.specs.Decoded.{areaOf}
+use Rattle.model.specs.Safe.{InArea}
+use Rattle.storage.proofs.Laws.{rest-area}
+use Rattle.blocks.proofs.Turns.{one-of, next-within, area-of, read-turn, read-end}
 use borrow.Author.Needs.{needs}
-use Rattle.model.specs.Lent.{delivered, blocksFrom}
-use Rattle.storage.proofs.Laws.{delivered-none}
-use Rattle.blocks.proofs.Turns.{one-of, next-within, read-turn}
 use Rattle.blocks.proofs.read_blocks.Statement.{statement}
 use Rattle.blocks.proofs.read_blocks.Tie as tie
 
 abbrev Inv-loop : tie.InvT-loop
-Inv-loop d store block blocks c main₀ n i₀ from₀ main i from =
-    (from ≡ i * d .block) × (from ≤ n) × (i < blocks) × (length main ≡ length main₀) × (main ≡ delivered c main₀ (take from (blocksFrom d store block blocks)))
+Inv-loop d store block blocks chain main₀ n area₀ here₀ left₀ main area here left =
+    (here < block + blocks) × (left ≤ (block + blocks - here) * d .block) × (length main ≡ length main₀) × InArea chain area main left
+    × (scattered (areaOf chain area) main (take left (blocksFrom d store here (block + blocks - here))) ≡ scattered (areaOf chain area₀) main₀ (take n (blocksFrom d store block blocks)))
 
 abbrev μ-loop : tie.MeasureT-loop
-μ-loop d store block blocks c main₀ n i₀ from₀ main i from = n - from
+μ-loop d store block blocks chain main₀ n area₀ here₀ left₀ main area here left = block + blocks - here
 
-add-read-block : tie.Need-add-read-block Inv-loop μ-loop
-add-read-block c =
-    let first = c .before .before .before .before in
-    omega (arith, one-of {now = first .args .store .now} (first .pre .stored) (c .before .loop .inv .2) refl .1)
+loop-holds : tie.Need-loop-holds Inv-loop μ-loop
+loop-holds c =
+    let first = c .before .before .before in
+    let a = first .args in
+    let all : a .block + a .blocks - a .block ≡ a .blocks = omega arith in
+    (omega (arith, first .pre .stored .some), rw all (first .pre .bytes), refl, first .pre .area, rw all refl)
 
 read-block-requires : tie.Need-read-block-requires Inv-loop μ-loop
 read-block-requires c κs =
     let l = c .before .before .loop in
-    let first = c .before .before .before .before .before in
+    let first = c .before .before .before .before .before .before in
     let k = c .before .least .ensures in
-    record { stored = one-of {now = first .args .store .now} (first .pre .stored) (l .inv .2) refl .0; bytes = omega (arith, k); area = record { inside = omega (arith, k, l .inv .1, l .inv .3, first .pre .area .inside) } }
+    record { stored = one-of {now = first .args .store .now} (first .pre .stored) (l .inv .0) refl .0; bytes = omega (arith, k); area = area-of _ (l .inv .3) (omega (arith, k)) }
 
-add-i : tie.Need-add-i Inv-loop μ-loop
-add-i c =
-    let first = c .before .before .before .before .before .before .before .before in
-    omega (arith, one-of {now = first .args .store .now} (first .pre .stored) (c .before .before .before .before .before .loop .inv .2) refl .1)
+add-here : tie.Need-add-here Inv-loop μ-loop
+add-here c =
+    let first = c .before .before .before .before .before .before .before .before .before in
+    omega (arith, one-of {now = first .args .store .now} (first .pre .stored) (c .before .before .before .before .before .loop .inv .0) refl .1)
 
 returns : tie.Need-returns Inv-loop μ-loop
 returns c =
-    let k = c .before .before .before .before .before in
-    let l = k .before .loop in
-    let first = k .before .before .before .before in
+    let k = c .before .before .before .before .before .least .ensures in
+    let l = c .before .before .before .before .before .before .loop in
+    let first = c .before .before .before .before .before .before .before .before .before .before in
     let a = first .args in
-    let done : l .from + k .least .result ≡ a .n = omega (arith, k .least .ensures, l .inv .1, c .if1 .taken) in
-    rw done at (read-turn (a .d) (a .c) (a .main .now) (a .store .now) (a .block) (a .blocks) (a .n) (l .i) (l .from) _ (l .inv .0) (k .least .ensures) (l .inv .1) (first .pre .bytes) (first .pre .stored) (first .pre .area) (l .inv .4) (c .before .before .before .read-block .ensures))
+    let read = c .before .before .before .read-block .ensures in
+    let lies = one-of {now = a .store .now} (first .pre .stored) (l .inv .0) refl .0 in
+    read-end (a .d) (a .chain .now) (l .area) _ (l .here) (a .block + a .blocks - l .here) (l .left) _ (read .1) k (omega (arith, l .inv .0)) (a .store .now) (l .main) _ (read .0) (l .inv .3) lies (c .if1 .taken) ∙ l .inv .4
 
 loop-again : tie.Need-loop-again Inv-loop μ-loop
 loop-again c =
-    let k = c .before .before .before .before .before in
-    let l = k .before .loop in
-    let first = k .before .before .before .before in
+    let k = c .before .before .before .before .before .least .ensures in
+    let l = c .before .before .before .before .before .before .loop in
+    let first = c .before .before .before .before .before .before .before .before .before .before in
     let a = first .args in
-    let next = next-within (a .d .block) (a .n) (l .i) (l .from) _ (a .blocks) (l .inv .0) (k .least .ensures) (c .if1 .left) (first .pre .bytes) in
-    let moved = read-turn (a .d) (a .c) (a .main .now) (a .store .now) (a .block) (a .blocks) (a .n) (l .i) (l .from) _ (l .inv .0) (k .least .ensures) (l .inv .1) (first .pre .bytes) (first .pre .stored) (first .pre .area) (l .inv .4) (c .before .before .before .read-block .ensures) in
-    (next .0, omega (arith, c .if1 .left), next .1, omega (arith, l .inv .3), moved)
+    let read = c .before .before .before .read-block .ensures in
+    let lies = one-of {now = a .store .now} (first .pre .stored) (l .inv .0) refl .0 in
+    let next = next-within (a .d .block) (l .left) _ (a .block + a .blocks - l .here) k (l .inv .1) (c .if1 .left) in
+    let less : a .block + a .blocks - (l .here + 1) ≡ a .block + a .blocks - l .here - 1 = omega arith in (
+      omega (arith, next .1),
+      rw less (next .0),
+      omega (arith, l .inv .2),
+      rest-area (a .chain .now) (l .area) _ (l .main) _ _ (l .left) (read .1) (l .inv .3) (omega arith),
+      rw less (read-turn (a .d) (a .chain .now) (l .area) _ (l .here) (a .block + a .blocks - l .here) (l .left) _ (read .1) k (omega (arith, l .inv .0)) (a .store .now) (l .main) _ (read .0) (l .inv .3) lies) ∙ l .inv .4,
+    )
 
 pub read-blocks-spec : {M : Type 1} → statement M
-read-blocks-spec = tie.close (tie.spec
+read-blocks-spec =
+    tie.close
+    (tie.spec
     Inv-loop
     μ-loop
-    (λ c. let first = c .before .before in (sym (zero-mul _), omega arith, first .pre .stored .some, refl, sym (delivered-none _ _)))  -- loop-holds
-    (search needs)  -- sub-least
+    loop-holds
     (search needs)  -- least-requires
-    add-read-block
     read-block-requires
-    add-i
-    (search needs)  -- add-from
+    add-here
+    (search needs)  -- sub-left
     (search needs)  -- same-length
     returns
     (search needs)  -- loop-less

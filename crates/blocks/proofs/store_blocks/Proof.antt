@@ -1,76 +1,83 @@
--- `store_blocks` meets its contract. Before block i the blocks before it are stored; `blocks - i` falls. Assumes nothing.
-use Prim.Native.Nat.{ℕ, _+_, _-_, _*_, _≤_, _<_, min}
+-- `store_blocks` meets its contract. Before each block, storing the bytes that are left in the blocks that are left makes the whole; the blocks left fall.
+-- Assumes nothing.
+use Prim.Native.Nat.{_+_, _-_, _<_}
 use mathlib.Core.Path.{_≡_, refl, _∙_}
-use lib.ListN.{length}
-use native.Mathlib.Nat.{zero-mul, zero-min}
+use lib.ListN.{length, take}
+use native.Mathlib.Nat.{mul-le-mul-left}
 use native.Mathlib.Omega.{arith}
+use Rattle.model.specs.Lent.{blocksInto}
+use Rattle.model.specs.Pieces.{bytesIn}
+use Rattle.model.specs.Decoded.{areaOf}
+use Rattle.model.specs.Safe.{InArea}
+use Rattle.storage.proofs.Laws.{rest-area}
+use Rattle.blocks.proofs.Turns.{one-of, area-of, store-turn}
 use borrow.Author.Needs.{needs}
-use Rattle.model.specs.Lent.{fetched, blocksInto}
-use Rattle.blocks.specs.Places.{InStore}
-use Rattle.blocks.proofs.Turns.{one-of, Share, next-share, store-turn}
 use Rattle.blocks.proofs.store_blocks.Statement.{statement}
 use Rattle.blocks.proofs.store_blocks.Tie as tie
 
 abbrev Inv-loop : tie.InvT-loop
-Inv-loop d store₀ block blocks c main n from₀ i₀ store from i =
-    (i ≤ blocks) × (from ≡ min (i * d .block) n) × (length store ≡ length store₀) × (store ≡ blocksInto d store₀ block i (fetched c main n))
+Inv-loop d store₀ block blocks chain main n end area₀ here₀ left₀ store area here left =
+    (end ≡ block + blocks) × (here < end) × (length store ≡ length store₀) × InArea chain area main left
+    × (blocksInto d store here (end - here) (take left (bytesIn (areaOf chain area) main)) ≡ blocksInto d store₀ block blocks (take n (bytesIn (areaOf chain area₀) main)))
 
 abbrev μ-loop : tie.MeasureT-loop
-μ-loop d store₀ block blocks c main n from₀ i₀ store from i = blocks - i
+μ-loop d store₀ block blocks chain main n end area₀ here₀ left₀ store area here left = end - here
 
--- block i lies in the store
-room : (c : tie.In-loop Inv-loop μ-loop) → let a = c .before .before .before .before .args in let b : ℕ = a .block + c .before .loop .i in
-    InStore (a .d) (c .before .loop .store) b 1 × (b < length (c .before .loop .store))
-room c =
-    let first = c .before .before .before .before in
+loop-holds : tie.Need-loop-holds Inv-loop μ-loop
+loop-holds c =
+    let first = c .before .before .before in
     let a = first .args in
-    one-of (first .pre .stored) (c .loop-test .taken) (c .before .loop .inv .2)
+    let all : a .block + a .blocks - a .block ≡ a .blocks = omega arith in
+    (refl, omega (arith, first .pre .stored .some), refl, first .pre .area, rw all refl)
 
 store-block-requires : tie.Need-store-block-requires Inv-loop μ-loop
 store-block-requires c κs =
-    let turn = c .before .before in
-    let first = turn .before .before .before .before in
+    let l = c .before .before .loop in
+    let first = c .before .before .before .before .before .before in
     let k = c .before .least .ensures in
-    let l = turn .before .loop .inv in
-    record { stored = room turn .0; bytes = omega (arith, k); area = record { inside = omega (arith, k, l .1, first .pre .area .inside) } }
+    record { stored = one-of {now = l .store} {here = l .here} (first .pre .stored) (omega (arith, l .inv .0, l .inv .1)) (l .inv .2) .0; bytes = omega (arith, k); area = area-of _ (l .inv .3) (omega (arith, k)) }
 
-add-from : tie.Need-add-from Inv-loop μ-loop
-add-from c =
-    let first = c .before .before .before .before .before .before .before .before .before in
-    omega (arith, c .before .before .before .before .least .ensures, first .pre .stored .device .small-size)
+returns : tie.Need-returns Inv-loop μ-loop
+unfolding blocksInto
+returns c =
+    let k = c .before .before .before .before .before .least .ensures in
+    let l = c .before .before .before .before .before .before .loop in
+    let first = c .before .before .before .before .before .before .before .before .before .before in
+    let a = first .args in
+    let stored = c .before .before .before .store-block .ensures in
+    let turn = store-turn (a .d) (a .chain .now) (l .area) _ (l .here) (a .block + a .blocks - l .here) (l .left) _ (stored .1) k (omega (arith, l .inv .0, l .inv .1)) (a .main .now) (l .store) _ (stored .0) (l .inv .3) in
+    let none : a .block + a .blocks - l .here - 1 ≡ 0 = omega (arith, l .inv .0, c .if1 .taken) in
+    rw none at turn ∙ rw (l .inv .0) at (l .inv .4)
 
 loop-again : tie.Need-loop-again Inv-loop μ-loop
 loop-again c =
-    let turn = c .before .before .before .before .before in
-    let first = turn .before .before .before .before in
+    let k = c .before .before .before .before .before .least .ensures in
+    let l = c .before .before .before .before .before .before .loop in
+    let first = c .before .before .before .before .before .before .before .before .before .before in
     let a = first .args in
-    let l = turn .before .loop in
-    let t : Share (a .d .block) (a .n) (l .i) (l .from) _ = record { after = l .inv .1; bytes = c .before .before .before .before .least .ensures } in (
-      omega (arith, turn .loop-test .taken),
-      next-share _ _ _ _ _ t,
+    let stored = c .before .before .before .store-block .ensures in
+    let turn = store-turn (a .d) (a .chain .now) (l .area) _ (l .here) (a .block + a .blocks - l .here) (l .left) _ (stored .1) k (omega (arith, l .inv .0, l .inv .1)) (a .main .now) (l .store) _ (stored .0) (l .inv .3) in
+    let less : a .block + a .blocks - (l .here + 1) ≡ a .block + a .blocks - l .here - 1 = omega arith in (
+      l .inv .0,
+      omega (arith, l .inv .1, c .if1 .left),
       omega (arith, l .inv .2),
-      c .before .before .store-block .ensures ∙ store-turn (a .d) (a .c) (a .main .now) (a .store .now) (a .block) (a .n) (l .i) (l .from) _ _ t (l .inv .3),
+      rest-area (a .chain .now) (l .area) _ (a .main .now) (a .main .now) _ (l .left) (stored .1) (l .inv .3) refl,
+      rw (l .inv .0, less) turn ∙ rw (l .inv .0) at (l .inv .4),
     )
 
-returns : tie.Need-returns Inv-loop μ-loop
-returns c =
-    let l = c .before .loop in
-    let done : l .i ≡ c .before .before .before .before .args .blocks = omega (arith, l .inv .0, c .loop-test .left) in
-    rw done at (l .inv .3)
-
 pub store-blocks-spec : {M : Type 1} → statement M
-unfolding blocksInto
-store-blocks-spec = tie.close (tie.spec
+store-blocks-spec =
+    tie.close
+    (tie.spec
     Inv-loop
     μ-loop
-    (λ c. (omega arith, rw (zero-mul, zero-min) refl, refl, refl))  -- loop-holds
-    (λ c. omega (arith, c .before .loop .inv .1))  -- sub-least
+    (λ c. let first = c .before .before .before in omega (arith, first .pre .stored .inside, mul-le-mul-left (first .args .block + first .args .blocks) (first .pre .stored .device .some-size)))  -- add-end
+    loop-holds
     (search needs)  -- least-requires
-    (λ c. omega (arith, room (c .before .before) .1))  -- add-store-block
     store-block-requires
-    add-from
-    (search needs)  -- add-i
-    (search needs)  -- loop-less
-    loop-again
+    (search needs)  -- sub-left
+    (λ c. let l = c .before .before .before .before .before .loop in let first = c .before .before .before .before .before .before .before .before .before in omega (arith, one-of {now = l .store} {here = l .here} (first .pre .stored) (omega (arith, l .inv .0, l .inv .1)) (l .inv .2) .1))  -- add-here
     (search needs)  -- same-length
-    returns)
+    returns
+    (search needs)  -- loop-less
+    loop-again)

@@ -23,7 +23,7 @@ returns-2 c =
 pub define-by-spec : {M : Type 1} → statement M
 define-by-spec = tie.close (tie.spec
     (search needs)  -- extent-in-requires
-    (λ c κs. (c .before .before .pre .0, c .extent-in .ensures))  -- define-parameters-requires
+    (λ c κs. (c .before .before .pre, c .extent-in .ensures))  -- define-parameters-requires
     (search needs)  -- number-requires
     (search needs)  -- refuse-parameters-requires
     returns

@@ -10,7 +10,7 @@ use Rattle.model.proofs.Verdicts.{first-here, first-later}
 use Rattle.model.proofs.Steps.{performed-as}
 use Rattle.unit_state.specs.Standing.{stateOf}
 use Rattle.endings.proofs.Ends.{refused-by}
-use Rattle.storage.proofs.Laws.{fetched-array}
+use Rattle.model.specs.Decoded.{commandOf}
 use Rattle.command_locate.proofs.Locating.{locate-ends}
 use Rattle.command_locate.proofs.locate.Statement.{statement}
 use Rattle.command_locate.proofs.locate.Tie as tie
@@ -18,32 +18,32 @@ use Rattle.command_locate.proofs.locate.Tie as tie
 returns : tie.Need-returns
 unfolding locateCauses stateOf bytesRead oneOf pick
 returns c =
-    let first = c .before .before .before .before in
+    let first = c .before .before .before .before .before in
     let a = first .args in
-    λ d store. refused-by (a .u) (a .c) (a .s) (a .main .now) store _ _ _ 30 _ (performed-as d (a .c) _ (a .main .now) store .locate (first .pre .1))
+    λ d store. refused-by (a .u) (a .chain .now) (a .c) (first .pre .0 .told) (a .s) (a .main .now) store _ _ _ 30 _ (performed-as d (commandOf (a .chain .now) (a .c)) _ (a .main .now) store .locate (first .pre .1))
     (c .refuse .ensures) (first-here _ _ (c .before .if1 .taken)) refl refl
 
 returns-2 : tie.Need-returns-2
 unfolding locateCauses stateOf bytesRead oneOf pick
 returns-2 c =
-    let first = c .before .before .before .before .before .before in
+    let first = c .before .before .before .before .before .before .before in
     let a = first .args in
-    λ d store. refused-by (a .u) (a .c) (a .s) (a .main .now) store _ _ _ 31 _ (performed-as d (a .c) _ (a .main .now) store .locate (first .pre .1))
-    (c .refuse2 .ensures) (first-later _ _ (c .before .before .before .if1 .left) ∙ first-here _ _ (lt-ltb _ _ (c .before .if2 .taken))) refl refl
+    λ d store. refused-by (a .u) (a .chain .now) (a .c) (first .pre .0 .told) (a .s) (a .main .now) store _ _ _ 31 _ (performed-as d (commandOf (a .chain .now) (a .c)) _ (a .main .now) store .locate (first .pre .1))
+    (c .refuse2 .ensures) (first-later _ _ (c .before .before .before .if1 .left) ∙ first-here _ _ (lt-ltb _ _ (rw (first .pre .0 .told .count) at (c .before .if2 .taken)))) refl refl
 
-locate-by-requires : tie.Need-locate-by-requires
-unfolding zeros
-locate-by-requires c κs =
-    let at = c .before .before .before .before in
-    let first = at .before .before .before .before .before in
-    (first .pre .0, at .if2 .left, fetched-array (first .args .c) (first .args .main .now) _ _ (c .before .before .fetch .ensures) (omega (arith, first .pre .0 .area .inside, at .if2 .left)))
+fetch-requires : tie.Need-fetch-requires
+fetch-requires c κs =
+    let first = c .before .before .before .before .before .before .before in
+    let h = first .pre .0 in
+    (record { ccws = h .told .ccws; inside = h .inside; left = rw (← (h .told .count)) (c .before .if2 .left) }, search needs)
 
 returns-3 : tie.Need-returns-3
+unfolding zeros
 returns-3 c =
     let at = c .before .before .before .before .before in
-    let first = at .before .before .before .before .before in
+    let first = at .before .before .before .before .before .before in
     let a = first .args in
-    λ d store. locate-ends (a .u) d (a .c) (a .s) (a .main .now) store _ (c .locate-by .ensures) (first .pre .1) (at .before .before .if1 .left) (at .if2 .left)
+    λ d store. locate-ends (a .u) d (a .chain .now) (a .c) (a .s) (a .main .now) store (first .pre .0) _ _ (c .locate-by .ensures) (c .before .before .before .fetch .ensures .0) (first .pre .1) (at .before .before .if1 .left) (at .if2 .left)
 
 pub locate-spec : {M : Type 1} → statement M
 locate-spec = tie.close (tie.spec
@@ -52,7 +52,7 @@ locate-spec = tie.close (tie.spec
     (search needs)  -- refuse-requires-2
     returns-2
     (search needs)  -- slice-aggregate-fetch
-    (search needs)  -- fetch-requires
+    fetch-requires
     (search needs)  -- slice-aggregate-locate-by
-    locate-by-requires
+    (search needs)  -- locate-by-requires
     returns-3)

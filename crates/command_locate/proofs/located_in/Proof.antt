@@ -19,4 +19,5 @@ located-in-spec = tie.close (tie.spec
     (λ c. fits-under _ _ 16 (mask-lt (getD (c .before .before .args .p .now) 0 0) 4) tt)  -- cast-t5
     (λ c κs. eight (c .before .before .pre) tt)  -- be4-requires
     (λ c κs. eight (c .before .before .before .pre) tt)  -- be2-requires
+    (λ c. fits-under _ _ 65536 (c .be2 .ensures .1) tt)  -- cast-t9
     returns)

@@ -10,6 +10,7 @@ lies c = placed (c .args .d) (c .args .s) (c .args .store .now) (c .pre .0) (c .
 
 pub located-move-spec : {M : Type 1} → statement M
 located-move-spec = tie.close (tie.spec
+    (search needs)  -- cast-can
     (λ c. omega (arith, lies (c .before .before .before .before .before) .product))  -- mul-can
     (λ c κs. lies (c .before .before .before .before .before) .from-first)  -- address-requires
     (search needs)  -- least-requires

@@ -10,6 +10,7 @@ use Rattle.model.proofs.Lengths.{in-store}
 use Rattle.model.proofs.Steps.{performed-as}
 use Rattle.unit_state.specs.Standing.{stateOf}
 use Rattle.endings.proofs.Ends.{refused-by}
+use Rattle.model.specs.Decoded.{commandOf}
 use Rattle.command_transfer.proofs.Transfers.{ipl-ends}
 use Rattle.command_transfer.proofs.read_ipl.Statement.{statement}
 use Rattle.command_transfer.proofs.read_ipl.Tie as tie
@@ -18,21 +19,22 @@ returns : tie.Need-returns
 unfolding readIplCauses stateOf bytesRead oneOf pick
 returns c =
     let tested = c .before in
-    let first = tested .before .before .before .before in
+    let first = tested .before .before .before .before .before in
     let a = first .args in
-    λ u. refused-by u (a .c) (a .s) (a .main .now) (a .store .now) _ _ _ 40 _ (performed-as (a .d) (a .c) _ (a .main .now) (a .store .now) .read-ipl (first .pre .2)) (c .refuse .ensures)
+    λ u. refused-by u (a .chain .now) (a .c) (first .pre .1 .told) (a .s) (a .main .now) (a .store .now) _ _ _ 40 _ (performed-as (a .d) (commandOf (a .chain .now) (a .c)) _ (a .main .now) (a .store .now) .read-ipl (first .pre .2)) (c .refuse .ensures)
     (first-here _ _ (ap not (sym (tested .before .none-or-ipl .ensures)) ∙ tested .if1 .taken)) refl refl
 
 read-blocks-requires : tie.Need-read-blocks-requires
 read-blocks-requires c κs =
     let least = c .before in
-    let first = least .before .before .before .before .before in
+    let first = least .before .before .before .before .before .before in
+    let h = first .pre .1 in
     let a = first .args in
     let sound = first .pre .0 in
     record {
       stored = record { device = sound .device; some = omega arith; inside = in-store (a .d) (a .store .now) 1 (sound .some-block) };
       bytes = omega (arith, least .least .ensures);
-      area = record { inside = omega (arith, least .least .ensures, first .pre .1 .area .inside) };
+      area = record { ccws = h .told .ccws; inside = h .inside; left = omega (arith, least .least .ensures, h .told .count) };
     }
 
 returns-2 : tie.Need-returns-2
@@ -41,9 +43,9 @@ returns-2 c =
     let moved = c .before .before .before .before in
     let least = moved .before .before in
     let tested = least .before in
-    let first = tested .before .before .before .before in
+    let first = tested .before .before .before .before .before in
     let a = first .args in
-    λ u. ipl-ends u (a .d) (a .c) (a .s) (a .main .now) (a .store .now) _ _ _ _ (first .pre .2)
+    λ u. ipl-ends u (a .d) (a .chain .now) (a .c) (a .s) (a .main .now) (a .store .now) _ (first .pre .1) _ _ _ (first .pre .2)
     (first-later _ _ (ap not (sym (tested .before .none-or-ipl .ensures)) ∙ tested .if1 .left) ∙ first-none)
     (c .ipl-done .ensures) (least .least .ensures) (c .before .block-count .ensures) (moved .read-blocks .ensures)
 

@@ -17,7 +17,6 @@ answer-of-spec =
     (search needs)  -- cast-statuses-2
     (search needs)  -- add-statuses
     (search needs)  -- mul-t8
-    (search needs)  -- add-t10
-    (search needs)  -- mul-t11
-    (search needs)  -- add-t12
+    (search needs)  -- mul-t10
+    (search needs)  -- add-t11
     returns)

@@ -1,21 +1,16 @@
 -- `wrong_length` meets its contract: a test for each part of the definition, in its order. Assumes nothing.
 use borrow.Author.Tests.{eq-eqb, ne-eqb}
-use Rattle.model.specs.Answer.{wrongLength}
-use Rattle.model.specs.Lent.{flag}
 use borrow.Author.Needs.{needs}
 use Rattle.endings.proofs.wrong_length.Statement.{statement}
 use Rattle.endings.proofs.wrong_length.Tie as tie
 
 returns : tie.Need-returns
-unfolding wrongLength flag
 returns c = simp (eq-eqb _ _ (c .if1 .taken))
 
 returns-2 : tie.Need-returns-2
-unfolding wrongLength flag
 returns-2 c = simp (ne-eqb _ _ (c .before .before .if1 .left), ← (c .before .suppressed .ensures), c .if2 .taken)
 
 returns-3 : tie.Need-returns-3
-unfolding wrongLength flag
 returns-3 c =
     let asked = c .before .before in
     simp (ne-eqb _ _ (asked .before .if1 .left), ← (asked .suppressed .ensures), c .before .if2 .left)

@@ -1,4 +1,4 @@
--- `causes::all_chained` meets its contract. The invariant: the first i CCWs have flag 40. The measure: the CCWs left. One without the flag refutes the whole.
+-- `causes::all_chained` meets its contract. The invariant: the first i CCWs have flag 80 or 40. The measure: the CCWs left. One without both refutes the whole.
 -- Assumes nothing.
 use Prim.Native.Nat.{_≤_, _-_, _/_}
 use lib.ListN.{length}
@@ -26,14 +26,14 @@ returns : tie.Need-returns Inv-loop μ-loop
 unfolding flag
 returns c =
     let asked = c .before in
-    sym (chained-not _ _ _ _ (asked .before .ccw-at .ensures .0) (sym (asked .chained .ensures) ∙ not-true _ (c .if1 .taken)) (search needs))
+    sym (chained-not _ _ _ _ (asked .before .piece-at .ensures .0) (sym (asked .another-follows .ensures) ∙ not-true _ (c .if1 .taken)) (search needs))
 
 loop-again : tie.Need-loop-again Inv-loop μ-loop
 unfolding flag
 loop-again c =
     let asked = c .before in
     let turn = asked .before .before .before in
-    (search needs, chained-more _ _ _ (asked .before .ccw-at .ensures .0) (sym (asked .chained .ensures) ∙ not-false _ (c .if1 .left)) (turn .loop .inv .1))
+    (search needs, chained-more _ _ _ (asked .before .piece-at .ensures .0) (sym (asked .another-follows .ensures) ∙ not-false _ (c .if1 .left)) (turn .loop .inv .1))
 
 returns-2 : tie.Need-returns-2 Inv-loop μ-loop
 returns-2 c =
@@ -48,8 +48,8 @@ all-chained-spec =
     Inv-loop
     μ-loop
     loop-holds
-    (search needs)  -- ccw-at-requires
-    (search needs)  -- chained-requires
+    (search needs)  -- piece-at-requires
+    (search needs)  -- another-follows-requires
     returns
     (search needs)  -- add-i
     (search needs)  -- loop-less

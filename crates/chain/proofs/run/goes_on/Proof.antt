@@ -1,6 +1,5 @@
 -- `run::goes_on` meets its contract: a test for each part, in its order. Assumes nothing.
 use borrow.Author.Tests.{eq-eqb, ne-eqb}
-use Rattle.model.specs.Lent.{flag}
 use borrow.Author.Needs.{needs}
 use Rattle.chain.proofs.run.goes_on.Statement.{statement}
 use Rattle.chain.proofs.run.goes_on.Tie as tie
@@ -12,7 +11,6 @@ returns-2 : tie.Need-returns-2
 returns-2 c = simp (eq-eqb _ _ (c .before .if1 .left), c .if2 .taken)
 
 returns-3 : tie.Need-returns-3
-unfolding flag
 returns-3 c = simp (eq-eqb _ _ (c .before .before .if1 .left), c .before .if2 .left) (c .chained .ensures)
 
 pub goes-on-spec : {M : Type 1} → statement M

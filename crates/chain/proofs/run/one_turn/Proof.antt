@@ -1,33 +1,44 @@
--- `run::one_turn` meets its contract: the CCW, the step and the answer are those of `next`, and "go on" is `more`. Assumes nothing.
-use Rattle.chain.proofs.Runs.{turned}
+-- `run::one_turn` meets its contract: the command, the step and the answers are those of `next`, and "go on" is `more`. Assumes nothing.
+use Prim.Native.Nat.{_<_}
+use native.Mathlib.Omega.{arith}
+use Rattle.chain.proofs.Runs.{begins-command, command-ccws, front-small, turned}
 use borrow.Author.Needs.{needs}
 use Rattle.chain.proofs.run.one_turn.Statement.{statement}
 use Rattle.chain.proofs.run.one_turn.Tie as tie
 
-step-requires : tie.Need-step-requires
-step-requires c κs =
-    let ccw = c .before .before in
-    let e = ccw .ccw-at .ensures in
-    (ccw .before .before .before .before .before .pre .3, e .1)
+-- two bytes count the blocks of a LOCATE
+few : (c : tie.Start) → c .args .s .located .blocks < 65536
+few c = search (needs, c .good .1 .1 .1 .1 .1 .0 .1 .1 .1 .0 .1 .1 .1 .1 .0)
+
+put-answers-requires : tie.Need-put-answers-requires
+put-answers-requires c κs =
+    let step = c .before .before .before .before .before .before in
+    let command = step .before .before .before in
+    let first = command .before .before .before .before .before in
+    let e = command .command-at .ensures in
+    (e .0 .0 .ccws, omega (arith, first .pre .room, command-ccws (first .args .chain .now) (first .args .at) (command .command-at .result) (e .1)), front-small (step .step .ensures))
 
 returns : tie.Need-returns
 returns c =
     let put = c .before .before .before in
     let step = put .before .before .before .before .before .before .before in
-    let ccw = step .before .before .before in
-    let first = ccw .before .before .before .before .before in
+    let command = step .before .before .before in
+    let first = command .before .before .before .before .before in
     let a = first .args in
-    let e = ccw .ccw-at .ensures in
-    turned (a .d) (a .chain .now) (a .i) _ (a .u) (a .s) (a .main .now) (a .store .now) (a .answers .now) _ _ (step .step .result)
-    (e .0) (step .step .ensures) _ _ (put .put-answer .ensures) (e .1) (first .pre .3 .device) (c .goes-on .ensures)
+    let e = command .command-at .ensures in
+    let p = put .put-answers .ensures in
+    λ i b.
+    let k = begins-command (a .chain .now) i (a .at) _ _ b (e .1) in
+    turned (a .d) (a .chain .now) (a .at) i _ (a .u) (a .s) (a .main .now) (a .store .now) (a .answers .now) _ _ (step .step .result) (a .reached)
+    (e .0 .0) (k .0) (step .step .ensures) _ _ _ (p .0) (p .1 .0) (p .1 .1) (first .pre .sound .device) (few first) (c .goes-on .ensures) (k .1) (e .0 .1)
 
 pub one-turn-spec : {M : Type 1} → statement M
 one-turn-spec =
     tie.close
     (tie.spec
-    (search needs)  -- ccw-at-requires
-    step-requires
-    (search needs)  -- put-answer-requires
+    (λ c κs. let first = c .before .before .before .before in (omega (arith, first .pre .lent), first .pre .short))  -- command-at-requires
+    (λ c κs. let command = c .before .before in (command .before .before .before .before .before .pre .sound, command .command-at .ensures .0 .0))  -- step-requires
+    put-answers-requires
     (search needs)  -- goes-on-requires
     (search needs)  -- same-length
     (search needs)  -- same-length-2

@@ -1,45 +1,46 @@
--- `channel_cause` meets its contract. Each test is one line of `channelCauses`, in its order. Assumes nothing.
-use Prim.Native.Nat.{ℕ}
+-- `channel_cause` meets its contract: the first line of `channelCauses`, and then those of the piece that is tested. Assumes nothing.
 use mathlib.Core.Path.{_≡_, sym, _∙_}
-use mathlib.Core.List.{List}
-use lib.ListN.{drop}
-use borrow.Author.Tests.{eq-eqb, ne-eqb}
-use Rattle.model.specs.Rules.{Rule, firstOf}
+use lib.ListN.{length}
+use Rattle.model.specs.Rules.{firstOf}
 use Rattle.model.specs.Causes.{channelCauses}
-use Rattle.model.proofs.Verdicts.{first-here, first-later, first-none}
+use Rattle.model.specs.Decoded.{commandOf}
+use Rattle.model.proofs.Verdicts.{first-here, first-later}
+use Rattle.channel.proofs.Tested.{cause, here, last, next}
 use borrow.Author.Needs.{needs}
 use Rattle.channel.proofs.causes.channel_cause.Statement.{statement}
 use Rattle.channel.proofs.causes.channel_cause.Tie as tie
 
-abbrev table : tie.Start → List Rule
-table s = channelCauses (s .args .c) (s .args .main .now)
-
--- the first n lines do not hold
-abbrev Past : tie.Start → ℕ → Type 0
-Past s n = firstOf (table s) ≡ firstOf (drop n (table s))
-
-past-1 : (c : tie.Else1) → Past (c .before .before .before .before) 1
+returns : tie.Need-returns
 unfolding channelCauses
-past-1 c = first-later _ _ (sym (c .before .no-command .ensures) ∙ c .if1 .left)
+returns c = sym (first-here _ _ (sym (c .before .no-command .ensures) ∙ c .if1 .taken))
 
-past-2 : (c : tie.Else2) → Past (c .before .before .before .before .before .before) 2
+-- a command whose byte is one leaves the verdict to its pieces
+pieces : (c : tie.Else1) → let a = c .before .before .before .before .args in firstOf (channelCauses (commandOf (a .chain .now) (a .c)) (a .main .now)) ≡ cause (a .chain .now) (a .c .command) (length (a .main .now)) (a .c .area)
 unfolding channelCauses
-past-2 c = past-1 (c .before .before) ∙ first-later _ _ (sym (c .before .others .ensures) ∙ c .if2 .left)
+pieces c = first-later _ _ (sym (c .before .no-command .ensures) ∙ c .if1 .left)
 
-past-3 : (c : tie.Else3) → Past (c .before .before .before .before .before .before .before .before) 3
-unfolding channelCauses
-past-3 c = past-2 (c .before .before) ∙ first-later _ _ (ne-eqb _ _ (c .if3 .left))
+returns-2 : tie.Need-returns-2
+returns-2 c =
+    let w = c .before .piece-cause .ensures in
+    w ∙ sym (here _ _ _ _ (λ z. c .if2 .taken (w ∙ z))) ∙ sym (pieces (c .before .before .before))
+
+returns-3 : tie.Need-returns-3
+returns-3 c = sym (c .before .before .if2 .left) ∙ c .before .before .before .piece-cause .ensures ∙ sym (last _ _ _ _ (c .if3 .taken)) ∙ sym (pieces (c .before .before .before .before .before))
+
+returns-4 : tie.Need-returns-4
+returns-4 c =
+    let passed = sym (c .before .before .before .before .before .piece-cause .ensures) ∙ c .before .before .before .before .if2 .left in
+    c .pieces-cause .ensures ∙ next _ _ _ _ _ (c .before .next-piece .ensures .0 .0) passed ∙ sym (pieces (c .before .before .before .before .before .before .before))
 
 pub channel-cause-spec : {M : Type 1} → statement M
-unfolding channelCauses
 channel-cause-spec =
     tie.close
     (tie.spec
     (search needs)  -- no-command-requires
-    (λ c. sym (first-here _ _ (sym (c .before .no-command .ensures) ∙ c .if1 .taken)))
-    (search needs)  -- others-requires
-    (λ c. sym (past-1 (c .before .before) ∙ first-here _ _ (sym (c .before .others .ensures) ∙ c .if2 .taken)))
-    (λ c. sym (past-2 (c .before .before) ∙ first-here _ _ (eq-eqb _ _ (c .if3 .taken))))
-    (search needs)  -- leaves-storage-requires
-    (λ c. sym (past-3 (c .before .before) ∙ first-here _ _ (sym (c .before .leaves-storage .ensures) ∙ c .if4 .taken)))
-    (λ c. sym (past-3 (c .before .before) ∙ first-later _ _ (sym (c .before .leaves-storage .ensures) ∙ c .if4 .left) ∙ first-none)))
+    returns
+    (λ c κs. let told = c .before .before .before .before .before .pre in record { count = told .ccws .small; address = told .low })  -- piece-cause-requires
+    returns-2
+    returns-3
+    (λ c κs. (c .before .before .before .before .before .before .before .before .before .pre .ccws, c .if3 .left))  -- next-piece-requires
+    (λ c κs. let r = c .next-piece .ensures .0 in (r .1, r .2))  -- pieces-cause-requires
+    returns-4)

@@ -2,12 +2,20 @@
 -- Assumes nothing.
 use borrow.Author.Needs.{needs}
 use native.Mathlib.Omega.{arith}
-use Rattle.log.proofs.Stores.{Arrays, log-stored}
+use mathlib.Core.Path.{ap, _∙_}
+use mathlib.Core.List.{[]}
+use lib.ListN.{length}
+use Rattle.model.specs.declared.record.Record.{Record}
+use Rattle.log.proofs.Stores.{Arrays, log-length, log-stored}
 use Rattle.log.proofs.Log.of.Statement.{statement}
 use Rattle.log.proofs.Log.of.Tie as tie
 
 arrays : (c : tie.Start) → Arrays (c .args .k)
 arrays c = record { read = search needs; written = search needs; movements = search needs }
+
+-- any record has a log of 24 bytes
+empty : Record
+empty = record { sense = []; «blocks_read» = []; «blocks_written» = []; movements = []; ready = 0; «read_only» = 0 }
 
 -- what is lent as a slice is an array of the counts
 slice-read : tie.Need-slice-aggregate-put-at-2
@@ -19,7 +27,8 @@ returns c =
     let second = third .before .before .before .before in
     let first = second .before .before .before .before in
     let start = first .before .before .before .before .before .before in
-    λ u. log-stored u _ _ _ _ (arrays start) (first .put-at .ensures) (second .put-at2 .ensures) (third .put-at3 .ensures)
+    let stored : (u : Record) → _ = λ u. log-stored u _ _ _ _ (arrays start) (first .put-at .ensures) (second .put-at2 .ensures) (third .put-at3 .ensures) in
+    (stored, ap length (stored empty) ∙ log-length empty _ (arrays start))
 
 pub of-spec : {M : Type 1} → statement M
 of-spec = tie.close (tie.spec

@@ -10,7 +10,7 @@ use Rattle.model.proofs.ccw.Flags.others.Tie as tie
 
 returns : tie.Need-returns
 unfolding bit anyBit
-returns c = mask-on _ (λ (b : ℕ). anyBit b (0 ∷ 3 ∷ 4 ∷ 5 ∷ 6 ∷ 7 ∷ [])) refl (c .before .args .self .0) (search needs)
+returns c = mask-on _ (λ (b : ℕ). anyBit b (3 ∷ 4 ∷ 5 ∷ 6 ∷ 7 ∷ [])) refl (c .before .args .self .0) (search needs)
 
 pub others-spec : {M : Type 1} → statement M
 others-spec = tie.close (tie.spec returns)

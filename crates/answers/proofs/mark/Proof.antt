@@ -1,9 +1,9 @@
--- `run::mark` meets its contract. Assumes nothing.
+-- `mark` meets its contract. Assumes nothing.
 use mathlib.Core.Path.{sym}
 use Rattle.numbers.proofs.Choice.{pick-true, pick-false}
 use borrow.Author.Needs.{needs}
-use Rattle.chain.proofs.run.mark.Statement.{statement}
-use Rattle.chain.proofs.run.mark.Tie as tie
+use Rattle.answers.proofs.mark.Statement.{statement}
+use Rattle.answers.proofs.mark.Tie as tie
 
 returns : tie.Need-returns
 returns c = sym (pick-true _ _ _ (c .if1 .taken))

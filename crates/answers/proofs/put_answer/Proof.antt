@@ -1,10 +1,10 @@
--- `run::put_answer` meets its contract: its two numbers, one after the other, and the mark. Assumes nothing.
+-- `put_answer` meets its contract: its two numbers, one after the other, and the mark. Assumes nothing.
 use Prim.Native.Nat.{_*_}
 use native.Mathlib.Omega.{arith}
-use Rattle.chain.proofs.Runs.{put-words, put-marked}
+use Rattle.answers.proofs.Putting.{put-words, put-marked}
 use borrow.Author.Needs.{needs}
-use Rattle.chain.proofs.run.put_answer.Statement.{statement}
-use Rattle.chain.proofs.run.put_answer.Tie as tie
+use Rattle.answers.proofs.put_answer.Statement.{statement}
+use Rattle.answers.proofs.put_answer.Tie as tie
 
 returns : tie.Need-returns
 returns c =

@@ -1,0 +1,135 @@
+// The answers of a command, one for each piece reached, behind those that were given before: the way in is `put_answers`. Nothing here
+// is refused: a caller proves that there is room for an answer to each CCW of the command.
+use channel::ccw::next_piece;
+use endings::Answer;
+use model::answer;
+use model::decoded::Area;
+use model::sizes;
+use model::status::ChannelStatus;
+use slices::clear;
+use slices::put_at;
+ghost use mathlib.Core.Path.{_≡_};
+ghost use Prim.Native.Nat.{_+_, _-_, _*_, _≤_, _<_};
+ghost use lib.ListN.{length, set};
+ghost use Rattle.numbers.specs.Choice.{pick};
+ghost use Rattle.slices.specs.Parts.{zeros, put};
+ghost use Rattle.model.specs.Names.{INCORRECT-LENGTH};
+ghost use Rattle.model.specs.Decoded.{Stands};
+ghost use Rattle.model.specs.Answer.{answerSize};
+ghost use Rattle.endings.specs.Ending.{withResidual, answerBytes, marked};
+ghost use Rattle.answers.specs.Reached.{spreadOver, answersGiven};
+
+// A wrong length is the channel's to mark, in its status.
+fn mark(answers: &mut [u8], at: usize, wrong: bool)
+    requires { ⌜ at < length (now answers) ⌝ }
+    ensures { λ _. ⌜ now (answers .exit) ≡ pick wrong (set (now (answers .entry)) at INCORRECT-LENGTH) (now (answers .entry)) ⌝ }
+{
+    if wrong {
+        answers[at] = ChannelStatus::INCORRECT_LENGTH;
+    }
+}
+
+// Answer i goes to its place.
+fn put_answer(answers: &mut [u8], i: usize, a: Answer, wrong: bool)
+    requires { ⌜ i * answerSize + answerSize ≤ length (now answers) ⌝ }
+    ensures { λ _. ⌜ now (answers .exit) ≡ put (now (answers .entry)) (i * answerSize) (marked wrong (answerBytes a)) ⌝ }
+{
+    let at = i * sizes::ANSWER;
+    let front = numbers::bytes4(a.front);
+    let back = numbers::bytes4(a.back);
+    put_at(answers, at, &front, 4);
+    put_at(answers, at + 4, &back, 4);
+    mark(answers, at + answer::CHANNEL_STATUS, wrong);
+}
+
+// The pieces that are filled, and what is left of the count of the next one, the last that is reached.
+struct Spread {
+    filled: usize,
+    residual: usize,
+}
+
+// n bytes over the pieces of an area, in turn.
+fn spread_over(chain: &[u8], a: Area, n: usize) -> Spread
+    requires { ⌜ Stands (now chain) a ⌝ }
+    ensures over { λ r. ⌜ (r .filled ≡ spreadOver (now (chain .entry)) a n .filled) × (r .residual ≡ spreadOver (now (chain .entry)) a n .residual) ⌝ }
+    ensures small { λ r. ⌜ (r .filled ≤ a .end - a .next) × (r .residual < 65536) ⌝ }
+{
+    let mut area = a;
+    let mut left = n;
+    let mut filled = 0;
+    loop {
+        let p = area.piece;
+        let count = p.count;
+        if left <= count {
+            return Spread {
+                filled: filled,
+                residual: count - left,
+            };
+        }
+        if area.end <= area.next {
+            return Spread {
+                filled: filled,
+                residual: 0,
+            };
+        }
+        left -= count;
+        filled += 1;
+        area = next_piece(chain, area);
+    }
+}
+
+// A piece that was filled, and is not the last one reached, has zeros for an answer.
+fn clear_answers(answers: &mut [u8], from: usize, n: usize)
+    requires { ⌜ (from + n) * answerSize ≤ length (now answers) ⌝ }
+    ensures { λ _. ⌜ now (answers .exit) ≡ put (now (answers .entry)) (from * answerSize) (zeros (n * answerSize)) ⌝ }
+{
+    if n == 0 {
+        return;
+    }
+    let at = from * sizes::ANSWER;
+    let end = (from + n) * sizes::ANSWER;
+    clear(&mut answers[at..end]);
+}
+
+// The answer of the last piece reached, with what is left of that piece's count, is answer i. How many there are then.
+fn put_last(answers: &mut [u8], i: usize, last: Answer, residual: usize, wrong: bool) -> usize
+    requires { ⌜ (i * answerSize + answerSize ≤ length (now answers)) × (last .front < 4294967296) × (residual < 65536) ⌝ }
+    ensures put { λ _. ⌜ now (answers .exit) ≡ put (now (answers .entry)) (i * answerSize) (marked wrong (answerBytes (withResidual last residual))) ⌝ }
+    ensures next { λ r. ⌜ r ≡ i + 1 ⌝ }
+{
+    put_answer(
+        answers,
+        i,
+        Answer {
+            front: last.front + residual,
+            back: last.back,
+        },
+        wrong,
+    );
+    i + 1
+}
+
+// The answers of a command that moved so many bytes over its data area, `given` answers having been given before. How many there are
+// then. Most commands reach one piece: they need no walk over the others.
+pub fn put_answers(
+    chain: &[u8],
+    a: Area,
+    answers: &mut [u8],
+    given: usize,
+    last: Answer,
+    moved: usize,
+    wrong: bool,
+) -> usize
+    requires { ⌜ Stands (now chain) a × ((given + (a .end - a .next) + 1) * answerSize ≤ length (now answers)) × (last .front < 4294967296) ⌝ }
+    ensures put { λ _. ⌜ now (answers .exit) ≡ put (now (answers .entry)) (given * answerSize) (answersGiven (now (chain .entry)) a last moved wrong) ⌝ }
+    ensures next { λ r. ⌜ r ≡ given + (spreadOver (now (chain .entry)) a moved .filled + 1) ⌝ }
+    ensures whole { λ _. ⌜ spreadOver (now (chain .entry)) a moved .residual < 65536 ⌝ }
+{
+    let p = a.piece;
+    if moved <= p.count {
+        return put_last(answers, given, last, p.count - moved, wrong);
+    }
+    let s = spread_over(chain, a, moved);
+    clear_answers(answers, given, s.filled);
+    put_last(answers, given + s.filled, last, s.residual, wrong)
+}
