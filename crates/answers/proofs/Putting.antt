@@ -1,7 +1,6 @@
 -- Laws of what is put for a command.
 --     put-words, put-marked      an answer is put: its two numbers, one after the other, and the mark of a wrong length
 --     put-none, put-lent-zeros   no zeros are put; a part that was lent is all zeros
---     put-first                  the answer of the first piece, where no other is reached
 --     put-given                  the zeros, then the last answer, are the answers of the command
 -- No contract cites this file.
 use Prim.Native.Nat.{ℕ, _+_, _-_, _*_, _≤_}
@@ -52,9 +51,3 @@ put-given chain a last moved wrong answers cleared both given filled residual p 
     let answer = marked wrong (answerBytes (withResidual last residual)) in
     let behind : (given + filled) * 8 ≡ given * 8 + length (zeros (filled * 8)) = rw length-zeros (omega arith) in
     f ∙ rw (e, behind, ← p, ← q) (put-more answers (given * 8) (zeros (filled * 8)) answer l)
-
--- no piece is filled before the last one reached
-pub put-first : (chain : List ℕ) (a : Area) (last : Answer) (moved : ℕ) (wrong : Bool) (answers both : List ℕ) (given residual : ℕ) → spreadOver chain a moved ≡ record { filled = 0; residual = residual }
-    → both ≡ put answers (given * 8) (marked wrong (answerBytes (withResidual last residual))) → both ≡ put answers (given * 8) (answersGiven chain a last moved wrong)
-unfolding answersGiven zeros
-put-first chain a last moved wrong answers both given residual e f = rw e f

@@ -1,9 +1,10 @@
 // The answers of a command, one for each piece reached, behind those that were given before: the way in is `put_answers`. Nothing here
 // is refused: a caller proves that there is room for an answer to each CCW of the command.
-use channel::ccw::next_piece;
+use channel::ccw::piece_at;
 use endings::Answer;
 use model::answer;
 use model::decoded::Area;
+use model::decoded::Decoded;
 use model::sizes;
 use model::status::ChannelStatus;
 use slices::clear;
@@ -14,10 +15,11 @@ ghost use lib.ListN.{length, set};
 ghost use Rattle.numbers.specs.Choice.{pick};
 ghost use Rattle.slices.specs.Parts.{zeros, put};
 ghost use Rattle.model.specs.Names.{INCORRECT-LENGTH};
-ghost use Rattle.model.specs.Decoded.{Stands};
+ghost use Rattle.model.specs.Pieces.{counts};
+ghost use Rattle.model.specs.Decoded.{areaOf, Stands, Decodes};
 ghost use Rattle.model.specs.Answer.{answerSize};
 ghost use Rattle.endings.specs.Ending.{withResidual, answerBytes, marked};
-ghost use Rattle.answers.specs.Reached.{spreadOver, answersGiven};
+ghost use Rattle.answers.specs.Reached.{spreadOver, spreadLeaving, answersGiven};
 
 // A wrong length is the channel's to mark, in its status.
 fn mark(answers: &mut [u8], at: usize, wrong: bool)
@@ -48,33 +50,28 @@ struct Spread {
     residual: usize,
 }
 
-// n bytes over the pieces of an area, in turn.
-fn spread_over(chain: &[u8], a: Area, n: usize) -> Spread
-    requires { ⌜ Stands (now chain) a ⌝ }
-    ensures over { λ r. ⌜ (r .filled ≡ spreadOver (now (chain .entry)) a n .filled) × (r .residual ≡ spreadOver (now (chain .entry)) a n .residual) ⌝ }
+// All but `left` bytes of an area's counts, over its pieces in turn: from the last piece back, for most commands leave none of it.
+fn spread_leaving(chain: &[u8], a: Area, left: usize) -> Spread
+    requires { ⌜ Stands (now chain) a × (left ≤ counts (areaOf (now chain) a)) ⌝ }
+    ensures over { λ r. ⌜ (r .filled ≡ spreadLeaving (now (chain .entry)) a left .filled) × (r .residual ≡ spreadLeaving (now (chain .entry)) a left .residual) ⌝ }
     ensures small { λ r. ⌜ (r .filled ≤ a .end - a .next) × (r .residual < 65536) ⌝ }
 {
-    let mut area = a;
-    let mut left = n;
-    let mut filled = 0;
-    loop {
-        let p = area.piece;
-        let count = p.count;
-        if left <= count {
+    let mut end = a.end;
+    let mut over = left;
+    while a.next < end {
+        let p = piece_at(chain, end - 1);
+        if over < p.count {
             return Spread {
-                filled: filled,
-                residual: count - left,
+                filled: end - a.next,
+                residual: over,
             };
         }
-        if area.end <= area.next {
-            return Spread {
-                filled: filled,
-                residual: 0,
-            };
-        }
-        left -= count;
-        filled += 1;
-        area = next_piece(chain, area);
+        over -= p.count;
+        end -= 1;
+    }
+    Spread {
+        filled: 0,
+        residual: over,
     }
 }
 
@@ -109,27 +106,22 @@ fn put_last(answers: &mut [u8], i: usize, last: Answer, residual: usize, wrong: 
     i + 1
 }
 
-// The answers of a command that moved so many bytes over its data area, `given` answers having been given before. How many there are
-// then. Most commands reach one piece: they need no walk over the others.
+// The answers of a command that moved so many bytes over its data area, `given` answers having been given before. How many there are then.
 pub fn put_answers(
     chain: &[u8],
-    a: Area,
+    c: Decoded,
     answers: &mut [u8],
     given: usize,
     last: Answer,
     moved: usize,
     wrong: bool,
 ) -> usize
-    requires { ⌜ Stands (now chain) a × ((given + (a .end - a .next) + 1) * answerSize ≤ length (now answers)) × (last .front < 4294967296) ⌝ }
-    ensures put { λ _. ⌜ now (answers .exit) ≡ put (now (answers .entry)) (given * answerSize) (answersGiven (now (chain .entry)) a last moved wrong) ⌝ }
-    ensures next { λ r. ⌜ r ≡ given + (spreadOver (now (chain .entry)) a moved .filled + 1) ⌝ }
-    ensures whole { λ _. ⌜ spreadOver (now (chain .entry)) a moved .residual < 65536 ⌝ }
+    requires { ⌜ Decodes (now chain) c × (moved ≤ c .count) × ((given + (c .area .end - c .area .next) + 1) * answerSize ≤ length (now answers)) × (last .front < 4294967296) ⌝ }
+    ensures put { λ _. ⌜ now (answers .exit) ≡ put (now (answers .entry)) (given * answerSize) (answersGiven (now (chain .entry)) (c .area) last moved wrong) ⌝ }
+    ensures next { λ r. ⌜ r ≡ given + (spreadOver (now (chain .entry)) (c .area) moved .filled + 1) ⌝ }
+    ensures whole { λ _. ⌜ spreadOver (now (chain .entry)) (c .area) moved .residual < 65536 ⌝ }
 {
-    let p = a.piece;
-    if moved <= p.count {
-        return put_last(answers, given, last, p.count - moved, wrong);
-    }
-    let s = spread_over(chain, a, moved);
+    let s = spread_leaving(chain, c.area, c.count - moved);
     clear_answers(answers, given, s.filled);
     put_last(answers, given + s.filled, last, s.residual, wrong)
 }

@@ -1,5 +1,5 @@
 -- What the functions that move blocks ask for.
---     InStore   so many blocks from one on, one at least, lie in the store of a device that may be used
+--     InStore   so many blocks from one on lie in the store
 --     Movable   n bytes can move between such blocks and the front of a data area
 -- Assumes nothing.
 use Prim.Native.Nat.{ℕ, _+_, _*_, _≤_}
@@ -7,11 +7,9 @@ use mathlib.Core.List.{List}
 use lib.ListN.{length}
 use Rattle.model.specs.declared.decoded.Area.{Area}
 use Rattle.model.specs.declared.device.Device.{Device}
-use Rattle.model.specs.Safe.{Usable, InArea}
+use Rattle.model.specs.Safe.{InArea}
 
 pub record InStore (dev : Device) (store : List ℕ) (block blocks : ℕ) : Type 0 where
-  pub device : Usable dev
-  pub some : 1 ≤ blocks
   pub inside : (block + blocks) * dev .block ≤ length store
 
 pub record Movable (dev : Device) (store : List ℕ) (block blocks : ℕ) (chain : List ℕ) (a : Area) (main : List ℕ) (n : ℕ) : Type 0 where

@@ -4,34 +4,29 @@
 -- No contract cites this file.
 use Prim.Native.Nat.{ℕ, zero, suc, _+_, _<_}
 use mathlib.Core.Path.{_≡_, refl}
-use mathlib.Core.Bool.{Bool, true, false, and-false, _||_}
+use mathlib.Core.Bool.{true, false, and-false}
 use mathlib.Core.List.{List}
 use native.Mathlib.Decide.{decLe}
 use native.Mathlib.Nat.{not-suc-le-zero}
 use native.Mathlib.Numerals.{add-one}
 use native.Mathlib.Omega.{arith}
 use Rattle.model.specs.declared.ccw.Piece.{Piece}
-use Rattle.model.specs.Names.{chain-data, chain-command}
-use Rattle.model.specs.Lent.{pieceAt, flag}
-use Rattle.model.specs.Causes.{allChained}
+use Rattle.model.specs.Lent.{pieceAt}
+use Rattle.model.specs.Causes.{followed, allChained}
 
 pub chained-none : (chain : List ℕ) → allChained chain 0 ≡ true
 unfolding allChained
 chained-none chain = refl
 
--- another CCW follows this one
-abbrev pub Followed : Piece → Bool → Type 0
-Followed p b = (flag p chain-data || flag p chain-command) ≡ b
-
-pub chained-more : (chain : List ℕ) (i : ℕ) (p : Piece) → p ≡ pieceAt chain i → Followed p true → allChained chain i ≡ true → allChained chain (i + 1) ≡ true
+pub chained-more : (chain : List ℕ) (i : ℕ) (p : Piece) → p ≡ pieceAt chain i → followed p ≡ true → allChained chain i ≡ true → allChained chain (i + 1) ≡ true
 unfolding allChained
 chained-more chain i p r e f = rw (add-one, ← r, e, f)
 
 -- CCW i is one of the n
-pub chained-not : (chain : List ℕ) (i n : ℕ) (p : Piece) → p ≡ pieceAt chain i → Followed p false → i < n → allChained chain n ≡ false
+pub chained-not : (chain : List ℕ) (i n : ℕ) (p : Piece) → p ≡ pieceAt chain i → followed p ≡ false → i < n → allChained chain n ≡ false
 unfolding allChained
 chained-not chain i zero p r e h = absurd (not-suc-le-zero h)
 chained-not chain i (suc n) p r e h = elim (decLe (suc i) n) [
-  | yes l ↦ rw (chained-not chain i n p r e l) (and-false (flag (pieceAt chain n) chain-data || flag (pieceAt chain n) chain-command))
+  | yes l ↦ rw (chained-not chain i n p r e l) (and-false (followed (pieceAt chain n)))
   | no l ↦ let same : n ≡ i = omega arith in rw (same, ← r, e)
 ]

@@ -37,7 +37,7 @@ use Rattle.model.specs.Sense.{shown}
 use Rattle.model.specs.Commands.{Out, step}
 use Rattle.model.specs.Answer.{answerSize, residual, filled, answersOf, answered, channelBy, channelStatus, wrongLength, goesOn}
 use Rattle.model.specs.Chain.{System, stepAt, next, more, run, called}
-use Rattle.model.specs.Safe.{Usable, Safe}
+use Rattle.model.specs.Safe.{Usable, Closes, Safe}
 use Rattle.model.proofs.Leaving.{status-byte, channel-byte}
 use Rattle.model.proofs.Endings.{Callable}
 use Rattle.model.proofs.Fields.{verdict-small, step-blocks}
@@ -47,7 +47,7 @@ use Rattle.model.proofs.Lengths.{Going, next-going, some-block}
 use Rattle.model.proofs.Safety.{safe-start}
 use Rattle.model.proofs.Steps.{step-cause}
 use Rattle.unit_state.specs.declared.Left.{Left}
-use Rattle.sense_table.specs.Sensed.{senseShowing, noSense}
+use Rattle.sense_table.specs.Sensed.{senseShowing}
 use Rattle.unit_state.specs.declared.Running.{Running}
 use Rattle.log.specs.Counts.{counted}
 use Rattle.unit_state.specs.Standing.{started, unitOf, stateOf, stateLeft, Sound}
@@ -84,11 +84,9 @@ begins-some chain i at b h =
     let long : length (commandsIn chain) - i ≡ length (commandsFrom chain (ccwsOf chain - at) at) = sym (length-drop i (commandsIn chain)) ∙ ap length b in
     omega (arith, some, long)
 
-begins-none : (chain : List ℕ) (i at : ℕ) → Begins chain i at → ccwsOf chain ≤ at → length (commandsIn chain) - i ≡ 0
-unfolding commandsFrom
-begins-none chain i at b h =
-    let none : ccwsOf chain - at ≡ 0 = omega arith in
-    sym (length-drop i (commandsIn chain)) ∙ ap length (rw none at b)
+-- the CCWs of a chain that ends with one of them or behind it
+pub closes-some : (chain : List ℕ) (at : ℕ) → Closes chain at → at < ccwsOf chain
+closes-some chain at c = omega (arith, c .from, c .lent)
 
 pub length-pieces : (chain : List ℕ) (i n : ℕ) → length (piecesFrom chain i n) ≡ n
 unfolding piecesFrom
@@ -106,20 +104,11 @@ command-ccws chain at c e =
     omega (arith, all, behind, own, ap ccwsIn e)
 
 module _ (dev : Device) (chain : List ℕ) where
-  -- no command is left to do, and one is
-  run-done : (n i : ℕ) (y : System) → n ≡ 0 → run dev chain n i y ≡ y
-  unfolding run
-  run-done n i y e = rw e
-
+  -- one command is left to do, at least
   run-suc : (m n i : ℕ) (y : System) → m ≡ suc n
       → run dev chain m i y ≡ pick (more dev chain i y) (run dev chain n (i + 1) (next dev chain i y)) (next dev chain i y)
   unfolding run
   run-suc m n i y e = rw e
-
-  left-done : (n i : ℕ) (s : Running) (y : System) → n ≡ 0
-      → leftFrom dev chain n i s y ≡ record { state = s; sense = noSense; cause = 0 }
-  unfolding leftFrom
-  left-done n i s y e = rw e
 
   left-suc : (m n i : ℕ) (s : Running) (y : System) → m ≡ suc n
       → leftFrom dev chain m i s y ≡ pick (more dev chain i y)
@@ -147,12 +136,13 @@ module _ (dev : Device) (chain : List ℕ) where
         → Walks dev chain u s₀ lent w main store answers
     given-walks e g = record { after = rw e at (g .0); left = rw e at (g .1) }
 
-    -- between two turns: the lengths are kept, the state is safe, command i begins with CCW `at`, there is room for an answer to each CCW
-    -- from there on, and what is still to run from here gives what the whole run does
+    -- between two turns: the lengths are kept, the state is safe, command i begins with CCW `at`, from which on the chain ends, there is
+    -- room for an answer to each CCW from there on, and what is still to run from here gives what the whole run does
     pub record Underway (main store answers : List ℕ) (s : Running) (at reached : ℕ) : Type 0 where
       pub command : ℕ
       pub count : n ≡ length (commandsIn chain)
       pub begins : Begins chain command at
+      pub closes : Closes chain at
       pub main-length : length main ≡ length main₀
       pub store-length : length store ≡ length store₀
       pub answers-length : length answers ≡ length answers₀
@@ -161,12 +151,13 @@ module _ (dev : Device) (chain : List ℕ) where
       pub same : Given (run dev chain (n - command) command (systemOf u s main store answers reached))
           (leftFrom dev chain (n - command) command s (systemOf u s main store answers reached))
 
-    pub underway-start : n ≡ length (commandsIn chain) → length chain ≤ length answers₀ → Safe (stateOf u s₀) (blockCount dev store₀) → Underway main₀ store₀ answers₀ s₀ 0 0
+    pub underway-start : n ≡ length (commandsIn chain) → Closes chain 0 → length chain ≤ length answers₀ → Safe (stateOf u s₀) (blockCount dev store₀) → Underway main₀ store₀ answers₀ s₀ 0 0
     unfolding commandsIn
-    underway-start e l h = record {
+    underway-start e c l h = record {
       command = 0;
       count = e;
       begins = rw sub-zero refl;
+      closes = c;
       main-length = refl;
       store-length = refl;
       answers-length = refl;
@@ -180,15 +171,15 @@ module _ (dev : Device) (chain : List ℕ) where
       here = systemOf u s main store answers reached
 
       -- a CCW of the chain begins a command
-      pub underway-more : at < ccwsOf chain → w .command < n
-      underway-more h = rw (w .count) (begins-some chain (w .command) at (w .begins) h)
+      underway-more : w .command < n
+      underway-more = rw (w .count) (begins-some chain (w .command) at (w .begins) (closes-some chain at (w .closes)))
 
       -- a turn that goes on leaves the run underway
-      pub underway-next : (main′ store′ answers′ : List ℕ) (t : Turn) → at < ccwsOf chain → 1 ≤ blockCount dev store → Turned dev chain u s here at (w .command) t main′ store′ answers′ → more dev chain (w .command) here ≡ true
+      pub underway-next : (main′ store′ answers′ : List ℕ) (t : Turn) → 1 ≤ blockCount dev store → Turned dev chain u s here at (w .command) t main′ store′ answers′ → more dev chain (w .command) here ≡ true
           → Underway main′ store′ answers′ (t .left .state) (t .end) (t .reached)
-      underway-next main′ store′ answers′ t h b p g =
+      underway-next main′ store′ answers′ t b p g =
           let i : ℕ = w .command in
-          let more : i < n = underway-more h in
+          let more : i < n = underway-more in
           let e : systemOf u (t .left .state) main′ store′ answers′ (t .reached) ≡ next dev chain i here = rw (on-left u i s here (t .left) g (p .left)) at (p .after) in
           let long : length answers ≡ length answers₀ = w .answers-length in
           let left : ccwsLeft chain i ≡ ccwsOf chain - at = begins-left chain i at (w .begins) in
@@ -200,6 +191,7 @@ module _ (dev : Device) (chain : List ℕ) where
             command = i + 1;
             count = w .count;
             begins = p .behind;
+            closes = p .closes (p .go ∙ g);
             main-length = m .main-length ∙ w .main-length;
             store-length = m .store-length ∙ w .store-length;
             answers-length = m .answers-length ∙ w .answers-length;
@@ -212,20 +204,14 @@ module _ (dev : Device) (chain : List ℕ) where
           }
 
       -- a turn that does not go on ends the run
-      pub underway-stop : (y : System) (l : Left) → at < ccwsOf chain → y ≡ next dev chain (w .command) here → more dev chain (w .command) here ≡ false
+      pub underway-stop : (y : System) (l : Left) → y ≡ next dev chain (w .command) here → more dev chain (w .command) here ≡ false
           → l ≡ leftAt dev chain (w .command) s here → Given y l
-      underway-stop y l h e g f =
+      underway-stop y l e g f =
           let i : ℕ = w .command in
-          let more : i < n = underway-more h in (
+          let more : i < n = underway-more in (
             e ∙ sym (run-suc (n - i) (n - (i + 1)) i here (omega (arith, more)) ∙ pick-false _ _ _ g) ∙ w .same .0,
             f ∙ sym (left-suc (n - i) (n - (i + 1)) i s here (omega (arith, more)) ∙ pick-false _ _ _ g) ∙ w .same .1,
           )
-
-      pub underway-done : ccwsOf chain ≤ at → Given here (record { state = s; sense = noSense; cause = 0 })
-      underway-done h =
-          let i : ℕ = w .command in
-          let none : n - i ≡ 0 = rw (w .count) (begins-none chain i at (w .begins) h) in
-          (sym (run-done (n - i) i here none) ∙ w .same .0, sym (left-done (n - i) i s here none) ∙ w .same .1)
 
 -- `Leaves` says all of what is left
 pub left-known : (u : Record) (c : Command) (s : Running) (l : Left) (o : Out) → Leaves u c s l o → l ≡ leftOf c s o
@@ -291,11 +277,23 @@ module _ (dev : Device) (chain : List ℕ) (at i : ℕ) (c : Decoded) (u : Recor
   unfolding stepAt
   turned-left = rw e (left-known u (commandOf chain c) s (r .left) _ (f .left))
 
+  -- it goes on after a last piece with flag 40
+  turned-on : (b : Bool) → b ≡ (r .left .cause =? 0 && not (r .wrong) && bit (c .flags .0) chain-command) → b ≡ true → bit (c .flags .0) chain-command ≡ true
+  turned-on b g e = both-true (r .left .cause =? 0 && not (r .wrong)) _ (sym g ∙ e) .1
+
   pub turned : (answers′ : List ℕ) (given : ℕ) (b : Bool) → answers′ ≡ put answers (reached * answerSize) (answersGiven chain (c .area) (r .answer) (r .moved) (r .wrong))
       → given ≡ reached + (spreadOver chain (c .area) (r .moved) .filled + 1) → spreadOver chain (c .area) (r .moved) .residual < 65536 → Usable dev → s .located .blocks < 65536
       → b ≡ (r .left .cause =? 0 && not (r .wrong) && bit (c .flags .0) chain-command) → Begins chain (i + 1) (c .area .end) → at < c .area .end
+      → (bit (c .flags .0) chain-command ≡ true → Closes chain (c .area .end))
       → Turned dev chain u s found at i (record { left = r .left; end = c .area .end; reached = given; go = b }) main′ store′ answers′
-  turned answers′ given b h g m d l k y z = record { after = turned-system answers′ given h g m (d .some-size) l; go = turned-go b k; left = turned-left; behind = y; on = z }
+  turned answers′ given b h g m d l k y z o = record {
+    after = turned-system answers′ given h g m (d .some-size) l;
+    go = turned-go b k;
+    left = turned-left;
+    behind = y;
+    on = z;
+    closes = λ e. o (turned-on b k e);
+  }
 
 -- a store that kept its length is as good
 pub sound-same : (dev : Device) (u : Record) (s t : Running) (store store′ : List ℕ) → length store′ ≡ length store → Sound dev s store → Safe (stateOf u t) (blockCount dev store′) → Sound dev t store′

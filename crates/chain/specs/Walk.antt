@@ -5,14 +5,14 @@
 --     systemOf, systemLeft  the systems that a `Running` and a `Left` stand for, with what is lent
 --     runOf, leftBy         the system after the whole chain, and what it leaves; leftCall   what a call leaves
 --     Begins                command i of the chain begins with a CCW
---     InRun                 what a turn asks for: the CCW is in the chain, the state is sound, and there is room for an answer to each CCW left
+--     InRun                 what a turn asks for: the chain ends with its CCW or behind it, the state is sound, and there is room for an answer to each CCW left
 --     Turned                one turn is the definition's: the promise of `one_turn`
 --     Walks, Allowed        so is a run, and a call that no cause refuses
 --     calledWith            what a call gives, with what was lent
 -- Assumes nothing.
 use Prim.Native.Nat.{ℕ, zero, suc, _+_, _-_, _*_, _/_, _≤_, _<_}
 use mathlib.Core.Path.{_≡_}
-use mathlib.Core.Bool.{Bool, _&&_}
+use mathlib.Core.Bool.{Bool, true, _&&_}
 use mathlib.Core.List.{List}
 use lib.ListN.{length, drop}
 use Rattle.numbers.specs.Choice.{_=?_, pick}
@@ -27,6 +27,7 @@ use Rattle.model.specs.Parameters.{locateLength}
 use Rattle.model.specs.Sense.{shown}
 use Rattle.model.specs.Commands.{Out}
 use Rattle.model.specs.Chain.{System, system, stepAt, next, more, run, start, Called, called, callOf}
+use Rattle.model.specs.Safe.{Closes}
 use Rattle.log.specs.Counts.{countsOf}
 use Rattle.sense_table.specs.Sensed.{senseShowing, noSense}
 use Rattle.unit_state.specs.declared.Running.{Running}
@@ -90,7 +91,7 @@ Begins chain i at = drop i (commandsIn chain) ≡ commandsFrom chain (ccwsOf cha
 pub record InRun (dev : Device) (chain : List ℕ) (at reached : ℕ) (s : Running) (store answers : List ℕ) : Type 0 where
   pub sound : Sound dev s store
   pub short : length chain ≤ 256
-  pub lent : at < ccwsOf chain
+  pub closes : Closes chain at
   pub room : (reached + (ccwsOf chain - at)) * answerSize ≤ length answers
 
 -- in a chain that found record u, of a turn or a run that found s carried, which stands for system y, and leaves these buffers
@@ -101,6 +102,7 @@ pub record Turned (dev : Device) (chain : List ℕ) (u : Record) (s : Running) (
   pub left : t .left ≡ leftAt dev chain i s y
   pub behind : Begins chain (i + 1) (t .end)
   pub on : at < t .end
+  pub closes : t .go ≡ true → Closes chain (t .end)
 
 pub record Walks (dev : Device) (chain : List ℕ) (u : Record) (s : Running) (y : System) (w : Walked) (main store answers : List ℕ) : Type 0 where
   pub after : systemLeft u (w .left) main store answers (w .reached) ≡ runOf dev chain y

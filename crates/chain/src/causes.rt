@@ -1,16 +1,13 @@
 // The causes that refuse a call before any command: 1 to 5. The way in is `call_cause`, which is 0 where the chain may run.
 ghost use mathlib.Core.Path.{_≡_};
-ghost use mathlib.Core.Bool.{_||_};
 ghost use Prim.Native.Nat.{_/_};
 ghost use lib.ListN.{length};
-ghost use Rattle.numbers.specs.Bits.{bit};
-ghost use Rattle.model.specs.Names.{chain-data, chain-command};
 ghost use Rattle.model.specs.Rules.{firstOf};
 ghost use Rattle.model.specs.Lent.{ccwSize};
-ghost use Rattle.model.specs.Causes.{allChained, badChain, badStore, callCauses};
+ghost use Rattle.model.specs.Causes.{followed, allChained, badChain, badStore, callCauses};
 ghost use Rattle.model.specs.Safe.{Usable};
 use channel::ccw::piece_at;
-use model::ccw::Flags;
+use model::ccw::Piece;
 use model::device::Device;
 use model::sizes;
 
@@ -43,9 +40,10 @@ fn store_wrong(d: Device, store: &[u8]) -> bool
 }
 
 // Another CCW follows: one more piece of the command, or another command.
-fn another_follows(flags: Flags) -> bool
-    ensures { λ r. ⌜ r ≡ (bit (flags .0) chain-data || bit (flags .0) chain-command) ⌝ }
+fn another_follows(p: Piece) -> bool
+    ensures { λ r. ⌜ r ≡ followed p ⌝ }
 {
+    let flags = p.flags;
     if flags.continued() {
         return true;
     }
@@ -60,7 +58,7 @@ fn all_chained(chain: &[u8]) -> bool
     let mut i = 0;
     while i < n {
         let p = piece_at(chain, i);
-        if !another_follows(p.flags) {
+        if !another_follows(p) {
             return false;
         }
         i += 1;

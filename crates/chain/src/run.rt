@@ -4,8 +4,6 @@ use channel::ccw::command_at;
 use model::ccw::Flags;
 use model::device::Device;
 use model::record::Record;
-use model::sizes;
-use sense_table::Sense;
 use unit::step;
 use unit_state::Left;
 use unit_state::Running;
@@ -16,6 +14,7 @@ ghost use lib.ListN.{length};
 ghost use Rattle.numbers.specs.Bits.{bit};
 ghost use Rattle.numbers.specs.Choice.{_=?_};
 ghost use Rattle.model.specs.Names.{chain-command};
+ghost use Rattle.model.specs.Safe.{Closes};
 ghost use Rattle.unit_state.specs.Standing.{Sound};
 ghost use Rattle.chain.specs.Walk.{systemOf, Begins, InRun, Turned, Walks};
 
@@ -59,7 +58,7 @@ fn one_turn(
     let c = command_at(chain, at);
     let e = step(d, u, chain, c, s, main, store);
     let l = e.left;
-    let given = put_answers(chain, c.area, answers, reached, e.answer, e.moved, e.wrong);
+    let given = put_answers(chain, c, answers, reached, e.answer, e.moved, e.wrong);
     Turn {
         left: l,
         end: c.area.end,
@@ -74,6 +73,7 @@ pub struct Walked {
     pub reached: usize,
 }
 
+// The chain ends in what is lent of it: a command that goes on has another behind it.
 pub fn run_chain(
     d: Device,
     chain: &[u8],
@@ -83,33 +83,24 @@ pub fn run_chain(
     store: &mut [u8],
     answers: &mut [u8],
 ) -> Walked
-    requires { ⌜ (length (now chain) ≤ length (now answers)) × (length (now chain) ≤ 256) × Sound d s (now store) ⌝ }
+    requires { ⌜ Closes (now chain) 0 × (length (now chain) ≤ length (now answers)) × (length (now chain) ≤ 256) × Sound d s (now store) ⌝ }
     ensures { λ r. ⌜ Walks d (now (chain .entry)) u s (systemOf u s (now (main .entry)) (now (store .entry)) (now (answers .entry)) 0)
         r (now (main .exit)) (now (store .exit)) (now (answers .exit)) ⌝ }
 {
-    let n = chain.len() / sizes::CCW;
     let mut state = s;
     let mut at = 0;
     let mut reached = 0;
-    while at < n {
+    loop {
         let t = one_turn(d, chain, at, reached, u, state, main, store, answers);
         let l = t.left;
-        state = l.state;
-        at = t.end;
-        reached = t.reached;
         if !t.go {
             return Walked {
                 left: l,
-                reached: reached,
+                reached: t.reached,
             };
         }
-    }
-    Walked {
-        left: Left {
-            state: state,
-            sense: Sense::none(),
-            cause: 0,
-        },
-        reached: reached,
+        state = l.state;
+        at = t.end;
+        reached = t.reached;
     }
 }

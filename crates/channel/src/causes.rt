@@ -64,7 +64,7 @@ fn pieces_cause(chain: &[u8], command: u8, a: Area, held: usize) -> u8
     }
 }
 
-// The command's own byte, then its pieces; the first is told apart, for most commands have no other.
+// The command's own byte, then its pieces.
 pub fn channel_cause(chain: &[u8], c: Decoded, main: &[u8]) -> u8
     requires { ⌜ Decodes (now chain) c ⌝ }
     ensures { λ r. ⌜ r ≡ firstOf (channelCauses (commandOf (now (chain .entry)) c) (now (main .entry))) ⌝ }
@@ -72,13 +72,5 @@ pub fn channel_cause(chain: &[u8], c: Decoded, main: &[u8]) -> u8
     if no_command(c.command) {
         return 13;
     }
-    let a = c.area;
-    let cause = piece_cause(c.command, a.piece, main.len());
-    if cause != 0 {
-        return cause;
-    }
-    if a.end <= a.next {
-        return 0;
-    }
-    pieces_cause(chain, c.command, next_piece(chain, a), main.len())
+    pieces_cause(chain, c.command, c.area, main.len())
 }

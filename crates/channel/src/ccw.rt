@@ -1,12 +1,15 @@
 // How CCWs are read from the chain: a piece, the next piece of an area, and the command that a CCW begins. Byte 5 of a CCW is ignored.
 ghost use mathlib.Core.Path.{_≡_};
+ghost use mathlib.Core.Bool.{true};
 ghost use mathlib.Core.List.{_∷_};
 ghost use Prim.Native.Nat.{_+_, _-_, _*_, _/_, _≤_, _<_};
 ghost use lib.ListN.{length};
+ghost use Rattle.numbers.specs.Bits.{bit};
+ghost use Rattle.model.specs.Names.{chain-command};
 ghost use Rattle.model.specs.Lent.{ccwSize, codeAt, pieceAt};
 ghost use Rattle.model.specs.Pieces.{commandsFrom, counts, finalOf};
 ghost use Rattle.model.specs.Decoded.{piecesFrom, Stands, Decodes, laterOf, areaOf, commandOf};
-ghost use Rattle.model.specs.Safe.{PieceFits};
+ghost use Rattle.model.specs.Safe.{Closes, PieceFits};
 use model::ccw::Flags;
 use model::ccw::Piece;
 use model::decoded::Area;
@@ -46,28 +49,21 @@ struct Ccws {
     flags: Flags,
 }
 
-// From CCW i on, as long as they have flag 80 and the chain has another.
+// From CCW i on, as long as they have flag 80: such a CCW is not the one that ends the chain, so there is another.
 fn ccws_from(chain: &[u8], i: usize, first: Piece) -> Ccws
-    requires { ⌜ (i * ccwSize + ccwSize ≤ length (now chain)) × (length (now chain) ≤ 256) × (first ≡ pieceAt (now chain) i) × PieceFits first ⌝ }
+    requires { ⌜ Closes (now chain) i × (length (now chain) ≤ 256) × (first ≡ pieceAt (now chain) i) × PieceFits first ⌝ }
     ensures stand { λ r. ⌜ (i < r .end) × (r .end * ccwSize ≤ length (now (chain .entry))) ⌝ }
     ensures sum { λ r. ⌜ (r .count ≡ counts (first ∷ piecesFrom (now (chain .entry)) (i + 1) (r .end - (i + 1)))) × (r .count ≤ 2097120) ⌝ }
     ensures last { λ r. ⌜ r .flags ≡ finalOf first (piecesFrom (now (chain .entry)) (i + 1) (r .end - (i + 1))) .flags ⌝ }
     ensures one { λ r. ⌜ commandsFrom (now (chain .entry)) (length (now (chain .entry)) / ccwSize - i) i
         ≡ record { command = codeAt (now (chain .entry)) i; first = first; later = piecesFrom (now (chain .entry)) (i + 1) (r .end - (i + 1)) }
         ∷ commandsFrom (now (chain .entry)) (length (now (chain .entry)) / ccwSize - r .end) (r .end) ⌝ }
+    ensures on { λ r. ⌜ (bit (r .flags .0) chain-command ≡ true → Closes (now (chain .entry)) (r .end)) ⌝ }
 {
-    let n = chain.len() / sizes::CCW;
     let mut flags = first.flags;
     let mut count = first.count;
     let mut end = i + 1;
     while flags.continued() {
-        if n <= end {
-            return Ccws {
-                end: end,
-                count: count,
-                flags: flags,
-            };
-        }
         let p = piece_at(chain, end);
         flags = p.flags;
         count += p.count;
@@ -80,12 +76,13 @@ fn ccws_from(chain: &[u8], i: usize, first: Piece) -> Ccws
     }
 }
 
-// The command that begins with CCW i.
+// The command that begins with CCW i. Where its last piece has flag 40, another command begins behind it.
 pub fn command_at(chain: &[u8], i: usize) -> Decoded
-    requires { ⌜ (i * ccwSize + ccwSize ≤ length (now chain)) × (length (now chain) ≤ 256) ⌝ }
+    requires { ⌜ Closes (now chain) i × (length (now chain) ≤ 256) ⌝ }
     ensures told { λ r. ⌜ Decodes (now (chain .entry)) r × (i < r .area .end) ⌝ }
     ensures first { λ r. ⌜ commandsFrom (now (chain .entry)) (length (now (chain .entry)) / ccwSize - i) i
         ≡ commandOf (now (chain .entry)) r ∷ commandsFrom (now (chain .entry)) (length (now (chain .entry)) / ccwSize - r .area .end) (r .area .end) ⌝ }
+    ensures on { λ r. ⌜ (bit (r .flags .0) chain-command ≡ true → Closes (now (chain .entry)) (r .area .end)) ⌝ }
 {
     let first = piece_at(chain, i);
     let ccws = ccws_from(chain, i, first);

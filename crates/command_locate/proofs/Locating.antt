@@ -5,7 +5,6 @@ use mathlib.Core.Path.{_≡_, refl, sym, ap, _∙_}
 use mathlib.Core.Bool.{false, not, and-false}
 use mathlib.Core.List.{List}
 use lib.ListN.{take}
-use native.Mathlib.Omega.{arith}
 use borrow.Author.Tests.{le-ltb}
 use Rattle.model.specs.declared.decoded.Decoded.{Decoded}
 use Rattle.model.specs.declared.device.Device.{Device}

@@ -52,7 +52,6 @@ use Rattle.command_transfer.specs.declared.Move.{Move}
 use Rattle.command_transfer.specs.Transferred.{moveOf, readEnd, writtenBy, writeEnd, iplEnd}
 
 pub record Placed (dev : Device) (e : Extent) (l : Located) (store : List ℕ) : Type 0 where
-  pub some : 1 ≤ l .blocks
   pub from-first : e .first .0 ≤ l .displacement .0
   pub room : (address e (l .displacement) + l .blocks) * dev .block ≤ length store
   pub few : l .blocks ≤ 131072
@@ -71,7 +70,7 @@ placed dev s store h b =
     let few : n ≤ 131072 = omega (arith, on, h .few-blocks) in
     let p = mul-le-mul-right (dev .block) few in
     let q = mul-le-mul-left 131072 (h .device .small-size) in
-    record { some = safe .located b .1 .some; from-first = safe .located b .1 .from-first; room = in-store dev store _ on; few = few; product = omega (arith, p, q) }
+    record { from-first = safe .located b .1 .from-first; room = in-store dev store _ on; few = few; product = omega (arith, p, q) }
 
 -- a sound READ or WRITE: its table is that of a transfer, and what it does where that gives no cause
 pub record Transfer (follows : ℕ → Bool) (dev : Device) (chain : List ℕ) (c : Decoded) (s : Running) (main store : List ℕ) : Type 0 where
@@ -120,11 +119,10 @@ no-cause u p = first-later _ _ (ap not (p .located)) ∙ first-later _ _ (ap not
 module _ {follows : ℕ → Bool} {dev : Device} {chain : List ℕ} {c : Decoded} {s : Running} {main store : List ℕ} (p : Passed follows dev chain c s main store) {m : Move} (e : m ≡ moveOf dev c s) where
   pub move-asks : Movable dev store (m .block) (s .located .blocks) chain (c .area) main (m .n)
   move-asks =
-      let sound = p .transfer .sound in
-      let lies = placed dev s store sound (p .located) in
+      let lies = placed dev s store (p .transfer .sound) (p .located) in
       let h = p .transfer .handed in
       record {
-        stored = record { device = sound .device; some = lies .some; inside = rw e (lies .room) };
+        stored = record { inside = rw e (lies .room) };
         bytes = rw e (omega arith);
         area = record { ccws = h .told .ccws; inside = h .inside; left = rw e (omega (arith, h .told .count)) };
       }

@@ -2,7 +2,7 @@
 --     same-by         a result that is named, `r ≡ f x`: most functions, and the call with every buffer in one record
 --     told-unique     a test that is true exactly where a fact holds
 --     ends-unique     a command's ending with the two storages, `Ends u c s r main store ..`
---     next-unique, rest-unique          what is left of an area, behind a piece and behind some bytes
+--     next-unique                       what is left of an area behind a piece
 --     decoded-unique                    the command that a CCW begins
 --     status-unique, channel-unique     a status that is known by its byte
 --     log-unique                        a log that is known by its bytes
@@ -13,14 +13,13 @@ use Prim.Native.Nat.{ℕ, _+_, _-_}
 use mathlib.Core.Path.{_≡_, refl, sym, ap, _∙_}
 use mathlib.Core.Bool.{Bool, true, false}
 use mathlib.Core.List.{List, _∷_}
-use lib.ListN.{length, getD, drop}
+use lib.ListN.{length, getD}
 use native.Mathlib.Omega.{arith}
 use Rattle.model.specs.declared.ccw.Piece.{Piece}
 use Rattle.model.specs.declared.decoded.Area.{Area}
 use Rattle.model.specs.declared.decoded.Decoded.{Decoded}
 use Rattle.model.specs.Pieces.{Command, pieces, commandsFrom, total, final}
 use Rattle.model.specs.Decoded.{laterOf, areaOf, commandOf, Stands, Decodes}
-use Rattle.storage.specs.Area.{Rest}
 use Rattle.model.specs.declared.record.Record.{Record}
 use Rattle.model.specs.declared.record.Counts.{Counts}
 use Rattle.model.specs.Log.{logOf}
@@ -85,12 +84,6 @@ same-next chain r t s u e f =
     let long = length-pieces chain (r .next) (r .end - r .next) in
     let long′ = length-pieces chain (t .next) (t .end - t .next) in
     omega (arith, ap length e, long, long′, s .order, u .order, f)
-
-pub rest-unique : (chain : List ℕ) (a : Area) (n : ℕ) (r t : Area) → Rest chain a n r → Rest chain a n t → r ≡ t
-rest-unique chain a n r t p q =
-    let e = p .pieces ∙ sym (q .pieces) in
-    let end = p .end ∙ sym (q .end) in
-    areas-same chain r t e (same-next chain r t (p .ccws) (q .ccws) (ap (drop 1) e) end) end
 
 pub decoded-unique : (chain : List ℕ) (at : ℕ) (c k : Decoded) → Decodes chain c → Decodes chain k
     → commandsFrom chain (ccwsOf chain - at) at ≡ commandOf chain c ∷ commandsFrom chain (ccwsOf chain - c .area .end) (c .area .end)

@@ -5,24 +5,24 @@
 --     accepted-alike    any accepted command
 --     step-alike        any command
 -- No contract cites this file.
-use Prim.Native.Nat.{ℕ, _+_, _*_, _≤_, _<_, min}
+use Prim.Native.Nat.{ℕ, _*_, min}
 use mathlib.Core.Path.{_≡_, refl, sym, ap, _∙_}
 use mathlib.Core.Bool.{true}
-use mathlib.Core.List.{List, [], _∷_}
-use lib.ListN.{length, take, length-take}
+use mathlib.Core.List.{List, []}
+use lib.ListN.{take}
 use native.Mathlib.Omega.{arith}
-use borrow.Author.Tests.{eqb-true, ltb-false}
+use borrow.Author.Tests.{eqb-true}
 use Rattle.slices.specs.Parts.{zeros}
 use Rattle.model.specs.declared.record.Record.{Record}
 use Rattle.model.specs.declared.device.Device.{Device}
 use Rattle.model.specs.State.{State}
 use Rattle.model.specs.Names.{NO-OPERATION, DEFINE-EXTENT, LOCATE, READ, WRITE}
 use Rattle.numbers.specs.Choice.{_=?_}
-use Rattle.model.specs.Rules.{Rule, _when_, firstOf}
+use Rattle.model.specs.Rules.{Rule, firstOf}
 use Rattle.model.specs.Lent.{blockCount, blocksFrom}
 use Rattle.model.specs.Pieces.{Command, pieces, total, fetched, delivered}
 use Rattle.model.specs.Parameters.{locateLength, locatedIn, address, reads, writes}
-use Rattle.model.specs.Causes.{channelCauses, unitCauses, extentCauses, defineExtentCauses, permissionCauses, locationCauses, locateCauses, readIplCauses, transferCauses, verdict, a-locate, kindOf}
+use Rattle.model.specs.Causes.{channelCauses, unitCauses, extentCauses, defineExtentCauses, readIplCauses, transferCauses, verdict, a-locate, kindOf}
 use Rattle.model.specs.Sense.{shown}
 use Rattle.model.specs.Log.{withSense, movementCounted, logOf, logReset}
 use Rattle.model.specs.Commands.{Out, senseGiven, after, extentSet, locateSet, noOperation, defineExtent, locate, sent, sense, senseType, readLog, begun, read, write, accepted, refusal, refused, cleared, seen, decided, step, defineDone, locateDone, readDone, writeDone}

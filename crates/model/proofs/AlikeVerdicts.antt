@@ -5,22 +5,21 @@
 --                     the verdict of each command's own table is the same
 --     verdict-same    so is that of all of them
 -- No contract cites this file.
-use Prim.Native.Nat.{ℕ, _+_, _-_, _≤_, _<_}
+use Prim.Native.Nat.{ℕ, _+_, _-_, _<_}
 use mathlib.Core.Path.{_≡_, refl, sym, ap, _∙_}
-use mathlib.Core.Logic.{_⊎_, inl, inr, ⊎-elim}
-use mathlib.Core.Bool.{Bool, true, not}
-use mathlib.Core.List.{List, [], _∷_, _++_}
+use mathlib.Core.Bool.{Bool, true}
+use mathlib.Core.List.{List, _++_}
 use lib.ListN.{getD, take}
 use native.Mathlib.Omega.{arith}
-use borrow.Author.Tests.{eqb-true, eqb-false, ltb-false, lt-ltb}
+use borrow.Author.Tests.{eqb-true, lt-ltb}
 use Rattle.model.specs.declared.extent.Extent.{Extent}
 use Rattle.model.specs.declared.device.Device.{Device}
 use Rattle.model.specs.State.{State}
 use Rattle.model.specs.Names.{DEFINE-EXTENT, LOCATE, READ-IPL}
 use Rattle.numbers.specs.Choice.{_<?_}
-use Rattle.model.specs.Rules.{Rule, _when_, firstOf}
+use Rattle.model.specs.Rules.{Rule, firstOf}
 use Rattle.model.specs.Lent.{blockCount}
-use Rattle.model.specs.Pieces.{Command, pieces, total, fetched}
+use Rattle.model.specs.Pieces.{Command, pieces, fetched}
 use Rattle.model.specs.Parameters.{extentLength, extentIn, reservedIn, sizeIn, locateLength, address, outside, reads, writes}
 use Rattle.model.specs.Causes.{channelCauses, unitCauses, extentCauses, defineExtentCauses, permissionCauses, locationCauses, locateCauses, transferCauses, ownCauses, causesOf, verdict}
 use Rattle.model.specs.Moved.{placeOf, Off, ParametersApart}

@@ -18,6 +18,8 @@ use Rattle.model.specs.Chain.{System, system, stepAt, next, run, start, 
 use Rattle.numbers.proofs.Choice.{pick-ind}
 use Rattle.numbers.proofs.Joined.{either-false}
 use Rattle.model.proofs.Verdicts.{failed-all}
+use Rattle.model.specs.Safe.{Closes}
+use Rattle.model.proofs.Runs.{closes-start}
 use Rattle.model.proofs.Pieces.{ccwsLeft, all-left, some-commands, next-left}
 
 -- what a call is known to have where its cause is 0
@@ -30,6 +32,7 @@ pub record Callable (dev : Device) (chain main store answers : List ℕ) : Type 
   pub held : blockCount dev store ≤ 131072
   pub small : length main ≤ 16777216
   pub answered : length chain ≤ length answers
+  pub closes : Closes chain 0
 
 pub callable : (dev : Device) (chain main store answers : List ℕ) → firstOf (callCauses dev chain main store answers) ≡ 0 → Callable dev chain main store answers
 unfolding callCauses
@@ -51,6 +54,7 @@ callable dev chain main store answers e =
       held = ltb-false _ _ (r .1);
       small = ltb-false _ _ (f .1 .1 .0);
       answered = ltb-false _ _ (f .1 .1 .1 .0);
+      closes = closes-start chain (length chain / ccwSize) (omega arith) (f .1 .1 .1 .1 .0);
     }
 
 -- a run of the n commands from i on gives an answer, where there is one of them, and no more than they have CCWs

@@ -9,14 +9,14 @@ use mathlib.Core.Path.{_≡_, refl, _∙_}
 use mathlib.Core.Bool.{Bool, true, _&&_}
 use mathlib.Core.List.{List, [], _∷_, _++_}
 use lib.ListN.{length}
-use native.Mathlib.Nat.{mul-le-mul-left, div-lt-iff-lt-mul}
+use native.Mathlib.Nat.{div-lt-iff-lt-mul}
 use native.Mathlib.Omega.{arith}
 use borrow.Author.Tests.{eqb-true, ltb-true, ltb-false}
 use Rattle.numbers.specs.Bytes.{AreBytes}
 use Rattle.numbers.proofs.Bytes.{bytes-nil, bytes-cons, bytes-append, bytes-take, bytes-drop, bytes-tested}
 use Rattle.numbers.proofs.Big.{bytes2-are, bytes3-are, be2-fits}
 use Rattle.slices.specs.Parts.{zeros}
-use Rattle.slices.proofs.Laws.{length-zeros, length-part, length-put-is, bytes-zeros, bytes-part, bytes-put, bytes-pad}
+use Rattle.slices.proofs.Laws.{length-zeros, length-put-is, bytes-zeros, bytes-part, bytes-put, bytes-pad}
 use Rattle.model.specs.declared.record.Record.{Record}
 use Rattle.model.specs.declared.device.Device.{Device}
 use Rattle.model.specs.State.{State}
@@ -183,7 +183,6 @@ pub record Fields (c : Command) (o : Out) : Type 0 where
   pub main-bytes : AreBytes (o .main)
   pub store-bytes : AreBytes (o .store)
   pub cause-byte : o .done .cause < 256
-  pub moved-fits : o .done .moved ≤ total c
   pub blocks-fit : o .done .blocks < 65536
   pub located-fits : o .done .state .located .blocks < 65536
 
@@ -203,7 +202,6 @@ module _ (dev : Device) (c : Command) (s : State) (main store : List ℕ) (h : 1
     main-bytes = m;
     store-bytes = d;
     cause-byte = rw (← e) (verdict-small dev c s main store);
-    moved-fits = rw (← e) (verdict-read dev c s main store);
     blocks-fit = omega arith;
   }
 
@@ -215,7 +213,6 @@ module _ (dev : Device) (c : Command) (s : State) (main store : List ℕ) (h : 1
     main-bytes = bytes-scattered (pieces c) main _ m (bytes-take (min (total c) n) bytes b);
     store-bytes = d;
     cause-byte = omega arith;
-    moved-fits = omega arith;
     blocks-fit = omega arith;
     located-fits = l;
   }
@@ -226,15 +223,14 @@ module _ (dev : Device) (c : Command) (s : State) (main store : List ℕ) (h : 1
       let k = seen-record in
       record {
         refusal = λ w _ e. refused-fields w e;
-        no-operation = λ _. record { unit-fields = k; main-bytes = m; store-bytes = d; cause-byte = omega arith; moved-fits = omega arith; blocks-fit = omega arith; located-fits = l };
-        define-extent = λ _ _ f. record { unit-fields = k; main-bytes = m; store-bytes = d; cause-byte = omega arith; moved-fits = define-ok dev _ c s _ f .long; blocks-fit = omega arith; located-fits = l };
-        locate = λ _ _ f. record { unit-fields = movement-counted-record _ k; main-bytes = m; store-bytes = d; cause-byte = omega arith; moved-fits = locate-ok c s _ f .long; blocks-fit = omega arith; located-fits = be2-fits _ 2 (bytes-take locateLength _ (bytes-gathered (pieces c) main m)) };
+        no-operation = λ _. record { unit-fields = k; main-bytes = m; store-bytes = d; cause-byte = omega arith; blocks-fit = omega arith; located-fits = l };
+        define-extent = λ _ _ f. record { unit-fields = k; main-bytes = m; store-bytes = d; cause-byte = omega arith; blocks-fit = omega arith; located-fits = l };
+        locate = λ _ _ f. record { unit-fields = movement-counted-record _ k; main-bytes = m; store-bytes = d; cause-byte = omega arith; blocks-fit = omega arith; located-fits = be2-fits _ 2 (bytes-take locateLength _ (bytes-gathered (pieces c) main m)) };
         read = λ _ _ _. record {
           unit-fields = read-counted-record _ _ k;
           main-bytes = bytes-scattered (pieces c) main _ m (bytes-take (min (total c) (s .located .blocks * dev .block)) _ (blocks-from-bytes dev store _ _ d));
           store-bytes = d;
           cause-byte = omega arith;
-          moved-fits = omega arith;
           blocks-fit = omega (arith, l, begun-within dev (min (total c) (s .located .blocks * dev .block)) (s .located .blocks) h (omega arith));
           located-fits = l;
         };
@@ -243,7 +239,6 @@ module _ (dev : Device) (c : Command) (s : State) (main store : List ℕ) (h : 1
           main-bytes = m;
           store-bytes = blocks-into-bytes dev store _ _ _ d (bytes-take (min (total c) (s .located .blocks * dev .block)) _ (bytes-gathered (pieces c) main m));
           cause-byte = omega arith;
-          moved-fits = omega arith;
           blocks-fit = omega (arith, l, begun-within dev (min (total c) (s .located .blocks * dev .block)) (s .located .blocks) h (omega arith));
           located-fits = l;
         };
@@ -252,7 +247,6 @@ module _ (dev : Device) (c : Command) (s : State) (main store : List ℕ) (h : 1
           main-bytes = bytes-scattered (pieces c) main _ m (bytes-take (min (total c) (dev .block)) _ (blocks-from-bytes dev store 0 1 d));
           store-bytes = d;
           cause-byte = omega arith;
-          moved-fits = omega arith;
           blocks-fit = omega arith;
           located-fits = l;
         };
@@ -276,6 +270,23 @@ step-blocks dev c s main store h l =
       locate = λ _ _ _. omega arith;
       read = λ _ _ _. omega (arith, few);
       write = λ _ _ _. omega (arith, few);
+      read-ipl = λ _ _ _. omega arith;
+      sense = λ _ _. omega arith;
+      sense-type = λ _ _. omega arith;
+      read-log = λ _ _. omega arith;
+    })
+
+-- nor more bytes than its counts add up to
+pub step-moved : (dev : Device) (c : Command) (s : State) (main store : List ℕ) → step dev c s main store .done .moved ≤ total c
+unfolding noOperation defineExtent defineDone locate locateDone read readDone write writeDone readIpl iplDone sense senseType readLog sent refused
+step-moved dev c s main store =
+    step-cases dev c s main store (λ o. o .done .moved ≤ total c) (record {
+      refusal = λ _ _ e. rw (← e) (verdict-read dev c s main store);
+      no-operation = λ _. omega arith;
+      define-extent = λ _ _ f. define-ok dev _ c s _ f .long;
+      locate = λ _ _ f. locate-ok c s _ f .long;
+      read = λ _ _ _. omega arith;
+      write = λ _ _ _. omega arith;
       read-ipl = λ _ _ _. omega arith;
       sense = λ _ _. omega arith;
       sense-type = λ _ _. omega arith;

@@ -13,14 +13,14 @@ use borrow.Author.Tests.{eqb-true}
 use Rattle.numbers.specs.Bytes.{AreBytes}
 use Rattle.numbers.specs.Big.{be2}
 use Rattle.numbers.proofs.Bytes.{bytes-nil, bytes-cons, bytes-append}
-use Rattle.numbers.proofs.Big.{bytes2-are, bytes2-hold, be2-fits}
+use Rattle.numbers.proofs.Big.{bytes2-are, bytes2-hold}
 use Rattle.slices.proofs.Laws.{bytes-zeros, bytes-put}
 use Rattle.model.specs.declared.record.Record.{Record}
 use Rattle.model.specs.declared.device.Device.{Device}
 use Rattle.model.specs.State.{Done}
 use Rattle.model.specs.Rules.{firstOf}
-use Rattle.model.specs.Lent.{ccwSize, blockCount}
-use Rattle.model.specs.Pieces.{Command, pieces, commandsIn, commandAt, total}
+use Rattle.model.specs.Lent.{blockCount}
+use Rattle.model.specs.Pieces.{Command, pieces, commandsIn, commandAt}
 use Rattle.model.specs.Causes.{callCauses, kindOf}
 use Rattle.model.specs.Names.{residual-at, cause-at, blocks-at}
 use Rattle.model.specs.Answer.{channelStatus, residual, answerOf, answersOf, wrongLength}

@@ -18,7 +18,7 @@ use Rattle.model.specs.declared.device.Device.{Device}
 use Rattle.model.specs.State.{State, Done}
 use Rattle.model.specs.Names.{NO-OPERATION}
 use Rattle.model.specs.Rules.{firstOf}
-use Rattle.model.specs.Lent.{ccwSize, blockStart, blockCount, blocksInto}
+use Rattle.model.specs.Lent.{blockStart, blockCount, blocksInto}
 use Rattle.model.specs.Pieces.{Command, pieces, commandsIn, commandAt, total, delivered}
 use Rattle.model.specs.Parameters.{writes}
 use Rattle.model.specs.Causes.{callCauses}

@@ -8,12 +8,12 @@
 --     command-small              in a chain of bytes each count is small
 --     spread-few, spread-small   bytes over pieces: how many they fill, and what they leave of a count
 -- No contract cites this file.
-use Prim.Native.Nat.{ℕ, zero, suc, _+_, _-_, _/_, _≤_, _<_, min}
-use mathlib.Core.Path.{_≡_, refl, sym, ap, _∙_}
-use mathlib.Core.Bool.{Bool, true, false, not}
-use mathlib.Core.List.{List, [], _∷_, _++_}
+use Prim.Native.Nat.{ℕ, zero, suc, _+_, _-_, _/_, _≤_, _<_}
+use mathlib.Core.Path.{_≡_, refl, sym, _∙_}
+use mathlib.Core.Bool.{true, not}
+use mathlib.Core.List.{List, [], _∷_}
 use lib.ListN.{length, getD, take, drop, length-append, length-take}
-use lib.Seq.{drop-cons, drop-nil}
+use lib.Seq.{drop-cons}
 use native.Mathlib.Numerals.{add-one}
 use native.Mathlib.Omega.{arith}
 use borrow.Author.Tests.{eqb-true, eqb-false, eq-eqb, ne-eqb, ltb-false}
@@ -31,7 +31,7 @@ use Rattle.model.specs.Causes.{pieceCauses, testedOf}
 use Rattle.model.specs.State.{Done}
 use Rattle.numbers.proofs.Big.{be2-fits}
 use Rattle.model.specs.Lent.{ccwSize, pieceAt}
-use Rattle.model.specs.Pieces.{Command, pieces, continues, begins, commandsFrom, commandsIn, commandAt, counts, total, bytesIn, fetched, scattered, spread, Spread}
+use Rattle.model.specs.Pieces.{Command, pieces, continues, commandsFrom, commandsIn, commandAt, counts, total, bytesIn, fetched, scattered, spread, Spread}
 use Rattle.model.specs.Answer.{filled, answered}
 use Rattle.model.specs.Safe.{Inside}
 use Rattle.model.proofs.Verdicts.{failed-all}

@@ -6,7 +6,7 @@
 --     run-each, call-each   the run, and the call
 --     call-numbers     of a call that is lent bytes, each answer holds its numbers whole
 -- Assumes nothing.
-use Prim.Native.Nat.{ℕ, zero, suc, _+_, _*_, _/_, _≤_, _<_}
+use Prim.Native.Nat.{ℕ, zero, suc, _+_, _*_, _≤_, _<_}
 use mathlib.Core.Path.{_≡_, refl, sym, ap, _∙_}
 use mathlib.Core.Logic.{inl}
 use mathlib.Core.Bool.{true, false, false≢true}
@@ -24,7 +24,6 @@ use Rattle.model.specs.declared.record.Record.{Record}
 use Rattle.model.specs.declared.device.Device.{Device}
 use Rattle.model.specs.State.{State, Done}
 use Rattle.model.specs.Rules.{firstOf}
-use Rattle.model.specs.Lent.{ccwSize}
 use Rattle.model.specs.Pieces.{Command, commandsIn, commandAt}
 use Rattle.model.specs.Causes.{callCauses, causesOf, verdict}
 use Rattle.model.specs.Commands.{after, senseGiven, refused, refusal}

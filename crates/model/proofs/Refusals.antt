@@ -5,7 +5,7 @@
 --     step-untouched    a refused command leaves store and main storage as they were, moves no block, and has read of its
 --                       parameters what its cause says; of the record it changes the sense alone, and as a program check nothing
 -- Assumes nothing.
-use Prim.Native.Nat.{ℕ, _/_}
+use Prim.Native.Nat.{ℕ}
 use mathlib.Core.Path.{_≡_, refl, _∙_}
 use mathlib.Core.List.{List}
 use lib.ListN.{length}

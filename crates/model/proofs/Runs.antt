@@ -1,21 +1,25 @@
 -- The command that a CCW begins: a run of CCWs with flag 80, and the one behind them.
 --     Runs                      the CCWs from one up to the one before another have flag 80; runs-one, runs-more   none, and one more
---     run-command               so these and that other one are one command, if it lacks the flag or is the chain's last
+--     run-command               so these and that other one, which lacks the flag, are one command
+--     closes-start, closes-next a chain that cause 5 does not refuse ends; it still does behind a CCW that another follows
 --     pieces-first              the pieces of some CCWs: the first of them, and the rest
 --     counts-last, final-last   the sum of the counts, and the last piece, of a run with one more
 -- No contract cites this file.
-use Prim.Native.Nat.{ℕ, zero, suc, _+_, _-_, _≤_, _<_}
+use Prim.Native.Nat.{ℕ, zero, suc, _+_, _-_, _*_, _≤_, _<_}
 use mathlib.Core.Path.{_≡_, refl, sym, ap, _∙_}
-use mathlib.Core.Bool.{true, false}
-use mathlib.Core.List.{List, [], _∷_}
+use mathlib.Core.Bool.{Bool, true, false, false≢true}
+use mathlib.Core.List.{List, _∷_}
+use lib.ListN.{length}
 use native.Mathlib.Omega.{arith}
 use native.Mathlib.Decide.{decLe}
-use Rattle.numbers.proofs.Choice.{pick-ind, pick-true, pick-false}
-use Rattle.model.specs.declared.ccw.Piece.{Piece}
+use Rattle.numbers.proofs.Choice.{pick-true, pick-false}
+use Rattle.numbers.proofs.Joined.{both-false}
 use Rattle.model.specs.Names.{chain-data}
-use Rattle.model.specs.Lent.{codeAt, pieceAt, flag}
-use Rattle.model.specs.Pieces.{Command, begins, continues, commandsFrom, counts, finalOf}
+use Rattle.model.specs.Lent.{ccwSize, codeAt, pieceAt, flag}
+use Rattle.model.specs.Pieces.{begins, continues, commandsFrom, counts, finalOf}
+use Rattle.model.specs.Causes.{followed, allChained}
 use Rattle.model.specs.Decoded.{piecesFrom}
+use Rattle.model.specs.Safe.{Closes}
 
 module _ (chain : List ℕ) where
   -- CCW e - 1 is the last that was read, and it may or may not have the flag
@@ -31,35 +35,50 @@ module _ (chain : List ℕ) where
     | no h ↦ let here : j ≡ e - 1 = omega (arith, h, b) in rw here f
   ]
 
-  -- the one CCW of a command, or its last
-  last-command : (m i : ℕ) → ((m ≡ 0 → ⊥) → flag (pieceAt chain i) chain-data ≡ false)
-      → commandsFrom chain (suc m) i ≡ record { command = codeAt chain i; first = pieceAt chain i; later = [] } ∷ commandsFrom chain m (i + 1)
-  unfolding commandsFrom continues
-  last-command zero i s = pick-ind (λ (cs : List Command). cs ≡ begins (codeAt chain i) (pieceAt chain i) []) _ _ _ (λ _. refl) (λ _. refl)
-  last-command (suc m) i s = pick-false _ _ _ (s (λ e. omega (arith, e)))
+  -- a CCW without the flag is a command, or the last of one
+  last-one : (n i : ℕ) → flag (pieceAt chain i) chain-data ≡ false → commandsFrom chain (suc n) i ≡ begins (codeAt chain i) (pieceAt chain i) (commandsFrom chain n (i + 1))
+  unfolding commandsFrom
+  last-one n i f = pick-false _ _ _ f
 
   one-more : (n i : ℕ) → flag (pieceAt chain i) chain-data ≡ true → commandsFrom chain (suc n) i ≡ continues (codeAt chain i) (pieceAt chain i) (commandsFrom chain n (i + 1))
   unfolding commandsFrom
   one-more n i f = pick-true _ _ _ f
 
   -- k CCWs with flag 80, one more, which is the one before e, and m behind it
-  run-of : (k n m i e : ℕ) → n ≡ k + m → e ≡ i + 1 + k → Runs i e → ((m ≡ 0 → ⊥) → flag (pieceAt chain (e - 1)) chain-data ≡ false)
+  run-of : (k n m i e : ℕ) → n ≡ k + m → e ≡ i + 1 + k → Runs i e → flag (pieceAt chain (e - 1)) chain-data ≡ false
       → commandsFrom chain (suc n) i ≡ record { command = codeAt chain i; first = pieceAt chain i; later = piecesFrom chain (i + 1) k } ∷ commandsFrom chain m e
   unfolding piecesFrom continues
   run-of zero n m i e a b r s =
       let here : e ≡ i + 1 = omega (arith, b) in
       let last : e - 1 ≡ i = omega (arith, b) in
       let all : n ≡ m = omega (arith, a) in
-      rw (all, here) (last-command m i (rw last at s))
+      rw (all, here) (last-one m i (rw last at s))
   run-of (suc k) zero m i e a b r s = absurd (omega (arith, a))
   run-of (suc k) (suc n) m i e a b r s =
       rw (one-more (suc n) i (r i (omega arith) (omega (arith, b))), run-of k n m (i + 1) e (omega (arith, a)) (omega (arith, b)) (λ j l. r j (omega (arith, l))) s) refl
 
-  pub run-command : (i e n : ℕ) → i < e → e ≤ n → Runs i e → (e < n → flag (pieceAt chain (e - 1)) chain-data ≡ false)
+  pub run-command : (i e n : ℕ) → i < e → e ≤ n → Runs i e → flag (pieceAt chain (e - 1)) chain-data ≡ false
       → commandsFrom chain (n - i) i ≡ record { command = codeAt chain i; first = pieceAt chain i; later = piecesFrom chain (i + 1) (e - (i + 1)) } ∷ commandsFrom chain (n - e) e
   run-command i e n a b r s =
       let all : n - i ≡ suc (n - i - 1) = omega (arith, a, b) in
-      rw all (run-of (e - (i + 1)) (n - i - 1) (n - e) i e (omega (arith, a, b)) (omega (arith, a, b)) r (λ z. s (omega (arith, z))))
+      rw all (run-of (e - (i + 1)) (n - i - 1) (n - e) i e (omega (arith, a, b)) (omega (arith, a, b)) r s)
+
+  -- where the chain ends
+
+  pub closes-start : (n : ℕ) → n * ccwSize ≤ length chain → allChained chain n ≡ false → Closes chain 0
+  unfolding allChained
+  closes-start zero h e = absurd (false≢true (sym e))
+  closes-start (suc n) h e = here (followed (pieceAt chain n)) refl (closes-start n (omega (arith, h)))
+    where
+      here : (b : Bool) → followed (pieceAt chain n) ≡ b → (allChained chain n ≡ false → Closes chain 0) → Closes chain 0
+      here true f before = before (both-false _ _ e f)
+      here false f before = record { last = n; from = omega arith; lent = omega (arith, h); unfollowed = f }
+
+  pub closes-next : (i : ℕ) → Closes chain i → followed (pieceAt chain i) ≡ true → Closes chain (i + 1)
+  closes-next i c f = elim (decLe (i + 1) (c .last)) [
+    | yes h ↦ record { last = c .last; from = h; lent = c .lent; unfollowed = c .unfollowed }
+    | no h ↦ let here : i ≡ c .last = omega (arith, h, c .from) in absurd (false≢true (sym (c .unfollowed) ∙ rw here at f))
+  ]
 
   -- the pieces of CCWs i up to the one before e: the first of them, and one more at the end
 

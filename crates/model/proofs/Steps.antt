@@ -7,17 +7,16 @@
 --     step-cases                    what holds of a refusal and of each accepted command holds of `step`
 --     step-cause                    the cause that a command ends with is the verdict of its table
 -- No contract cites this file.
-use Prim.Native.Nat.{ℕ, _+_, _≤_, _<_}
+use Prim.Native.Nat.{ℕ, _+_, _<_}
 use mathlib.Core.Path.{_≡_, refl, sym, ap, _∙_}
-use mathlib.Core.Bool.{Bool, true, false, not, _||_, false≢true}
+use mathlib.Core.Bool.{Bool, true, false, _||_, false≢true}
 use mathlib.Core.List.{List, [], _∷_, _++_}
 use lib.ListN.{length}
-use native.Mathlib.Omega.{arith}
-use borrow.Author.Tests.{eqb-true, eqb-false, ne-eqb, ltb-false, not-false}
+use borrow.Author.Tests.{eqb-true, eqb-false, ne-eqb, not-false}
 use Rattle.model.specs.declared.device.Device.{Device}
 use Rattle.model.specs.State.{State}
 use Rattle.model.specs.Names.{NO-OPERATION, DEFINE-EXTENT, LOCATE, READ, WRITE, READ-IPL, SENSE, SENSE-TYPE, READ-LOG}
-use Rattle.numbers.specs.Choice.{_=?_, pick, oneOf}
+use Rattle.numbers.specs.Choice.{pick, oneOf}
 use Rattle.model.specs.Rules.{Rule, firstOf}
 use Rattle.model.specs.Lent.{blockCount}
 use Rattle.model.specs.Pieces.{Command, pieces, total, fetched}
@@ -26,7 +25,6 @@ use Rattle.model.specs.Causes.{channelCauses, commands, unitCauses, exte
 use Rattle.model.specs.Commands.{Out, noOperation, defineExtent, locate, read, write, readIpl, sense, senseType, readLog, accepted, after, sent, refused, cleared, seen, decided, performed, step, defineDone, iplDone, locateDone, readDone, writeDone}
 use Rattle.model.specs.Exactly.{Failed, absent}
 use Rattle.numbers.proofs.Choice.{pick-ind, pick-true, pick-false}
-use Rattle.numbers.proofs.Joined.{both-false}
 use Rattle.model.specs.Safe.{Inside}
 use Rattle.model.proofs.Verdicts.{first-append, failed-upto, failed-all, none-given}
 use Rattle.model.proofs.Pieces.{AllPassed, all-passed, some-counts, all-inside}

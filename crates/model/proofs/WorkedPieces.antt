@@ -7,7 +7,6 @@ use mathlib.Core.List.{List, [], _∷_, _++_, map}
 use lib.ListN.{take, drop, replicate}
 use Rattle.numbers.specs.Big.{bytes2}
 use Rattle.model.specs.Names.{NO-OPERATION, DEFINE-EXTENT, LOCATE, READ, WRITE, READ-IPL, SENSE, SENSE-TYPE, write-data, read-data}
-use Rattle.model.specs.Chain.{Called}
 use Rattle.model.proofs.Opened.{opened}
 use Rattle.model.proofs.Inputs.{lent, device, ccw, extent, location, Line, got, wanted}
 

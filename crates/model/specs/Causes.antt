@@ -52,10 +52,14 @@ bytesRead cause =
 
 -- the call
 
+-- another CCW follows this one: one more piece of its command, or another command
+abbrev pub followed : Piece → Bool
+followed p = flag p chain-data || flag p chain-command
+
 -- "when no CCW lacks both flags 80 and 40, where the chain now ends": each of the first n CCWs has one of them
 unfoldable pub allChained : List ℕ → ℕ → Bool
 allChained chain zero = true
-allChained chain (suc n) = (flag (pieceAt chain n) chain-data || flag (pieceAt chain n) chain-command) && allChained chain n
+allChained chain (suc n) = followed (pieceAt chain n) && allChained chain n
 
 -- no CCW, more than 32, or a part of one
 abbrev pub badChain : ℕ → Bool

@@ -12,7 +12,7 @@ use Rattle.model.specs.declared.ccw.Piece.{Piece}
 use Rattle.model.specs.declared.decoded.Area.{Area}
 use Rattle.model.specs.declared.decoded.Decoded.{Decoded}
 use Rattle.model.specs.Lent.{ccwSize, pieceAt}
-use Rattle.model.specs.Pieces.{Command, counts, total, final}
+use Rattle.model.specs.Pieces.{Command, total, final}
 
 unfoldable pub piecesFrom : List ℕ → ℕ → ℕ → List Piece
 piecesFrom chain i zero = []

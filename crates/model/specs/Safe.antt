@@ -1,5 +1,6 @@
--- What functions hand on from one to the other: a device, a data area, and a state of a chain that stays on the device. No way in asks for it.
+-- What functions hand on from one to the other: a device, a chain that ends, a data area, and a state that stays on the device. No way in asks for it.
 --     Usable     a device that a chain may run on: a block has 1 to 65,535 bytes
+--     Closes     from a CCW on there is one that no other follows: the chain ends in what is lent of it
 --     PieceFits  the numbers of a piece are no larger than their bytes hold
 --     Inside     each piece is in main storage
 --     InArea     n bytes are left of a command's data area, and all of it is in main storage
@@ -7,9 +8,9 @@
 --     InExtent   the blocks of a LOCATE are in the extent
 --     Safe       the extent that stands is on the device, and the LOCATE directly before is in it
 -- That every command leaves a safe state is proved in `proofs/Safety.antt`. Assumes nothing.
-use Prim.Native.Nat.{ℕ, _+_, _≤_, _<_}
+use Prim.Native.Nat.{ℕ, _+_, _*_, _≤_, _<_}
 use mathlib.Core.Path.{_≡_}
-use mathlib.Core.Bool.{true}
+use mathlib.Core.Bool.{true, false}
 use mathlib.Core.List.{List, [], _∷_}
 use lib.ListN.{length}
 use Rattle.model.specs.declared.ccw.Piece.{Piece}
@@ -18,14 +19,21 @@ use Rattle.model.specs.declared.device.Device.{Device}
 use Rattle.model.specs.declared.extent.Extent.{Extent}
 use Rattle.model.specs.declared.extent.Located.{Located}
 use Rattle.model.specs.State.{State}
+use Rattle.model.specs.Lent.{ccwSize, pieceAt}
 use Rattle.model.specs.Parameters.{address}
 use Rattle.model.specs.Pieces.{counts}
 use Rattle.model.specs.Decoded.{areaOf, Stands}
-use Rattle.model.specs.Causes.{a-locate}
+use Rattle.model.specs.Causes.{followed, a-locate}
 
 pub record Usable (dev : Device) : Type 0 where
   pub some-size : 1 ≤ dev .block
   pub small-size : dev .block ≤ 65535
+
+pub record Closes (chain : List ℕ) (i : ℕ) : Type 0 where
+  pub last : ℕ
+  pub from : i ≤ last
+  pub lent : last * ccwSize + ccwSize ≤ length chain
+  pub unfollowed : followed (pieceAt chain last) ≡ false
 
 pub record PieceFits (p : Piece) : Type 0 where
   pub count : p .count < 65536

@@ -2,7 +2,7 @@
 use crate::ccw::Flags;
 use crate::ccw::Piece;
 
-// A data area, or what is left of one: the rest of a piece, and the CCWs of the pieces behind it, from `next` up to `end`.
+// A data area: its first piece, and the CCWs of the pieces behind it, from `next` up to `end`. What is behind a piece is an area again.
 pub struct Area {
     pub piece: Piece,
     pub next: usize,

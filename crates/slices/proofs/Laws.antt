@@ -1,7 +1,7 @@
 -- Laws of `zeros`, `part`, `put` and `pad`: their lengths, what is read at a place, bytes after others, parts that were lent, and that bytes stay bytes.
 -- No contract cites this file.
 use Prim.Native.Nat.{ℕ, zero, suc, _+_, _-_, _≤_, _<_, min}
-use native.Mathlib.Nat.{zero-add, add-zero, add-assoc, zero-min, min-zero, suc-min-suc, sub-zero, zero-sub, suc-sub-suc}
+use native.Mathlib.Nat.{zero-add, add-zero, add-assoc, zero-min, min-zero, suc-min-suc, suc-add, sub-zero, zero-sub, suc-sub-suc}
 use mathlib.Core.Path.{_≡_, refl, sym, ap, _∙_}
 use mathlib.Core.Logic.{_⊎_, ⊎-elim}
 use mathlib.Core.Bool.{Bool, true, false}
@@ -9,7 +9,7 @@ use mathlib.Core.List.{List, [], _∷_, _++_, append-assoc, append-nil}
 use native.Mathlib.Numerals.{add-one}
 use native.Mathlib.Omega.{arith}
 use lib.Dec.{ltb}
-use lib.ListN.{length, getD, set, take, drop, length-append, length-take, length-drop, length-replicate, take-append-drop, drop-of-length-le, List·getD-append}
+use lib.ListN.{length, getD, set, take, drop, length-append, length-take, length-drop, length-replicate, replicate-append-replicate, take-append-drop, drop-of-length-le, List·getD-append}
 use lib.Seq.{take-nil, ext-getD, set-append-seam, length-take-le, take-length, take-all, drop-length, drop-drop, drop-cons, drop-append-le, take-add, take-at, drop-at, getD-take, getD-drop, getD-append-add}
 use borrow.Author.Fill.{fill-more}
 use borrow.Author.Tests.{ltb-true, ltb-false}
@@ -38,8 +38,6 @@ length-put-is n l at bytes e h = length-put l at bytes (rw e h) ∙ e
 pub length-pad : (n : ℕ) (bytes : List ℕ) → length (pad n bytes) ≡ n
 unfolding pad
 length-pad n bytes = simp (length-append, length-take, length-zeros) (omega arith)
-
--- `pad`, one byte at a time
 
 -- what is read at a place before, in and after the bytes that were put
 
@@ -127,6 +125,10 @@ pub put-nil : (l : List ℕ) (at : ℕ) → put l at [] ≡ l
 unfolding put
 put-nil l at = rw (add-zero, append-nil, take-append-drop)
 
+pub part-more : (l : List ℕ) (at m n : ℕ) → part l at (m + n) ≡ part l at m ++ part l (at + m) n
+unfolding part
+part-more l at m n = rw (take-add, drop-drop)
+
 pub put-more : (l : List ℕ) (at : ℕ) (bytes more : List ℕ) → at ≤ length l → put (put l at bytes) (at + length bytes) more ≡ put l at (bytes ++ more)
 unfolding put
 put-more l at bytes more h =
@@ -134,6 +136,12 @@ put-more l at bytes more h =
     let front : List ℕ = take at l ++ bytes in
     let e : length front ≡ n = length-append (take at l) bytes ∙ ap (λ (k : ℕ). k + length bytes) (length-take-le at l h) in
     rw (take-at front (drop n l) n e, ← drop-drop (length more) n (front ++ drop n l), drop-at front (drop n l) n e, drop-drop, length-append, ← add-assoc) (simp append-assoc)
+
+pub pad-more : (m n : ℕ) (l : List ℕ) → pad (m + n) l ≡ pad m l ++ pad n (drop m l)
+unfolding pad zeros
+pad-more zero n l = rw (zero-add, zero-sub) refl
+pad-more (suc m) n [] = simp (sub-zero, take-nil) (sym (replicate-append-replicate (suc m) n 0))
+pad-more (suc m) n (b ∷ l) = simp (suc-add, suc-sub-suc) (ap (λ (r : List ℕ). b ∷ r) (pad-more m n l))
 
 -- the first byte of a part, and the rest of it
 pub part-cons : (l : List ℕ) (at n : ℕ) → at < length l → part l at (suc n) ≡ getD l at 0 ∷ part l (at + 1) n
@@ -204,26 +212,12 @@ put-lent-filled l bytes back at n e h =
     let filled : back ≡ pad n bytes = rw long at e in
     put-lent-whole l back at n (rw (filled, long) (length-pad n bytes)) h ∙ ap (put l at) filled
 
--- bytes that fit are copied, and the rest is cleared
+-- some bytes of some
 
 pub take-fits : (n : ℕ) (l : List ℕ) → take (min n (length l)) l ≡ take n l
 take-fits zero l = rw zero-min
 take-fits (suc n) [] = rw min-zero
 take-fits (suc n) (b ∷ l) = rw (suc-min-suc, take-fits n l)
-
-pub pad-fits : (n : ℕ) (l : List ℕ) → take (min n (length l)) l ++ zeros (n - min n (length l)) ≡ pad n l
-unfolding pad
-pad-fits n l =
-    let e : n - min n (length l) ≡ n - length l = omega arith in
-    rw (take-fits, e)
-
--- some bytes of some
-
-pub take-min : (n m : ℕ) (l : List ℕ) → take n (take m l) ≡ take (min n m) l
-take-min zero m l = rw zero-min
-take-min (suc n) zero l = rw min-zero
-take-min (suc n) (suc m) [] = rw suc-min-suc
-take-min (suc n) (suc m) (b ∷ l) = rw (suc-min-suc, take-min n m l)
 
 pub drop-take : (n m : ℕ) (l : List ℕ) → drop n (take m l) ≡ take (m - n) (drop n l)
 drop-take zero m l = rw sub-zero
@@ -231,27 +225,18 @@ drop-take (suc n) zero l = rw zero-sub
 drop-take (suc n) (suc m) [] = rw suc-sub-suc (sym (take-nil (m - n)))
 drop-take (suc n) (suc m) (b ∷ l) = rw suc-sub-suc (drop-take n m l)
 
--- what fills n bytes needs no more of the bytes than n
-pub pad-min : (n m : ℕ) (l : List ℕ) → pad n (take (min n m) l) ≡ pad n (take m l)
-unfolding pad
-pad-min n m l =
-    let e : min n (min n m) ≡ min n m = omega arith in
-    let f : n - min (min n m) (length l) ≡ n - min m (length l) = omega arith in
-    rw (take-min n (min n m) l, e, take-min n m l, length-take, f, length-take)
-
--- `d` is the block, `b` the block with the bytes copied, `back` what `&mut b[n..]` came back as
-pub pad-cleared : (d l b back : List ℕ) (n : ℕ) → n ≡ min (length d) (length l) → b ≡ put d 0 (take n l) → back ≡ zeros (length (midOf n (length b - n) b))
+-- bytes are put at the front, and the rest is cleared: `b` is `d` with n bytes put, `back` what `&mut b[n..]` came back as
+pub pad-cleared : (d l b back : List ℕ) (n : ℕ) → length l ≡ n → n ≤ length d → b ≡ put d 0 l → back ≡ zeros (length (midOf n (length b - n) b))
     → putMid n (length b - n) b back ≡ pad (length d) l
-unfolding put
-pad-cleared d l b back n hn hb hc =
-    let ln : length (take n l) ≡ n = length-take-le n l (omega arith) in
-    let eb : b ≡ take n l ++ drop n d = rw (ln, zero-add) at hb in
-    let lb : length b ≡ length d = rw hb (length-put d 0 (take n l) (rw ln (omega arith))) in
-    let front : take n b ≡ take n l = rw eb (take-at (take n l) (drop n d) n ln) in
+unfolding put pad
+pad-cleared d l b back n ln h hb hc =
+    let eb : b ≡ l ++ drop n d = rw (ln, zero-add) at hb in
+    let lb : length b ≡ length d = rw hb (length-put d 0 l (omega arith)) in
+    let front : take n b ≡ l = rw eb (take-at l (drop n d) n ln) in
     let short : length (drop n b) ≤ length b - n = simp length-drop (omega arith) in
     let none : drop (length b - n) (drop n b) ≡ [] = drop-of-length-le (drop n b) short in
     let lc : length (midOf n (length b - n) b) ≡ length d - n = simp (length-take, length-drop) (omega arith) in
-    rw (front, none, append-nil, hc, lc, hn) (pad-fits (length d) l)
+    rw (front, none, append-nil, hc, lc, ln, take-all (length d) l (omega arith)) refl
 
 -- bytes stay bytes
 

@@ -1,16 +1,16 @@
 -- One piece more, of what is gathered and of what is scattered. No contract cites this file.
---     Left         so far `done` of the n bytes of an area were moved, and `area` is left of it
+--     Left         so far `done` of the n bytes were moved, and `area` has the others
 --     left-first   before the first piece
 --     left-more    another piece is there
 --     left-next    behind a piece
---     left-last    what is left where the bytes end in a piece
 --     gathered-turn, gathered-end, scattered-turn, scattered-end
 --                  the bytes of a piece, and of the last
 use Prim.Native.Nat.{ℕ, _+_, _-_, _≤_, _<_}
-use mathlib.Core.Path.{_≡_, refl, sym, ap, _∙_}
+use mathlib.Core.Path.{_≡_, sym, ap, _∙_}
 use mathlib.Core.List.{List, _∷_}
 use lib.ListN.{length, take, drop}
 use lib.Seq.{drop-drop}
+use native.Mathlib.Nat.{sub-zero}
 use native.Mathlib.Decide.{decLe}
 use native.Mathlib.Omega.{arith}
 use Rattle.slices.specs.Parts.{part, put}
@@ -21,21 +21,15 @@ use Rattle.model.specs.Pieces.{counts, bytesIn, scattered}
 use Rattle.model.specs.Decoded.{piecesFrom, laterOf, areaOf, Stands}
 use Rattle.model.specs.Safe.{InArea}
 use Rattle.model.proofs.Pieces.{inside-same}
-use Rattle.storage.specs.Area.{trimmed, beyond, Rest}
-use Rattle.storage.proofs.Laws.{beyond-next, inside-of, rest-here, gathered-here, gathered-next, scattered-here, scattered-next}
+use Rattle.storage.proofs.Laws.{inside-of, gathered-here, gathered-next, scattered-here, scattered-next}
 
 -- `main` is main storage as it is now
-pub record Left (chain : List ℕ) (a : Area) (n : ℕ) (main : List ℕ) (area : Area) (done : ℕ) : Type 0 where
+pub record Left (chain : List ℕ) (n : ℕ) (main : List ℕ) (area : Area) (done : ℕ) : Type 0 where
   pub some : done ≤ n
   pub there : InArea chain area main (n - done)
-  pub rest : beyond (n - done) (areaOf chain area) ≡ beyond n (areaOf chain a)
-  pub end : area .end ≡ a .end
 
-pub left-first : (chain : List ℕ) (a : Area) (n : ℕ) (main : List ℕ) → InArea chain a main n → Left chain a n main a 0
-left-first chain a n main h = record { some = omega arith; there = rw e h; rest = rw e refl; end = refl }
-  where
-    e : n - 0 ≡ n
-    e = omega arith
+pub left-first : (chain : List ℕ) (a : Area) (n : ℕ) (main : List ℕ) → InArea chain a main n → Left chain n main a 0
+left-first chain a n main h = record { some = omega arith; there = rw sub-zero h }
 
 -- where more bytes are left than the first piece has, another is behind it
 more-pieces : (chain : List ℕ) (a : Area) (n : ℕ) → n ≤ counts (areaOf chain a) → a .piece .count < n → a .next < a .end
@@ -51,15 +45,15 @@ behind-first : (p : Piece) (ps qs : List Piece) (n : ℕ) → qs ≡ ps → n �
 unfolding counts
 behind-first p ps qs n e h = rw e (omega (arith, h))
 
-module _ (chain : List ℕ) (a : Area) (n : ℕ) (main : List ℕ) (area : Area) (done : ℕ) (h : Left chain a n main area done) where
+module _ (chain : List ℕ) (n : ℕ) (main : List ℕ) (area : Area) (done : ℕ) (h : Left chain n main area done) where
   abbrev k : ℕ
   k = area .piece .count
 
   pub left-more : k < n - done → area .next < area .end
   left-more l = more-pieces chain area (n - done) (h .there .left) l
 
-  pub left-next : (main′ : List ℕ) (r : Area) → areaOf chain r ≡ laterOf chain area → Stands chain r → r .end ≡ area .end → length main ≡ length main′ → k < n - done → Left chain a n main′ r (done + k)
-  left-next main′ r e s end same l =
+  pub left-next : (main′ : List ℕ) (r : Area) → areaOf chain r ≡ laterOf chain area → Stands chain r → length main ≡ length main′ → k < n - done → Left chain n main′ r (done + k)
+  left-next main′ r e s same l =
       let less : n - (done + k) ≡ n - done - k = omega arith in
       record {
         some = omega (arith, l);
@@ -68,14 +62,7 @@ module _ (chain : List ℕ) (a : Area) (n : ℕ) (main : List ℕ) (area : Area)
           inside = inside-of (areaOf chain r) (laterOf chain area) main′ e (inside-same (laterOf chain area) main main′ same (h .there .inside .1));
           left = rw less (behind-first (area .piece) _ _ (n - done) e (h .there .left));
         };
-        rest = rw (e, less) (sym (beyond-next (area .piece) (laterOf chain area) (n - done) l) ∙ h .rest);
-        end = end ∙ h .end;
       }
-
-  pub left-last : (r : Area) → r ≡ trimmed area (n - done) → n - done ≤ k → Rest chain a n r
-  left-last r e l =
-      let here = rest-here chain area r (n - done) e (h .there .ccws) l in
-      record { pieces = here .pieces ∙ h .rest; ccws = here .ccws; end = here .end ∙ h .end }
 
 -- `to` is what was gathered so far, `back` with the piece's bytes
 module _ (p : Piece) (ps : List Piece) (main to back : List ℕ) (n done : ℕ) (inside : p .address + p .count ≤ length main) where

@@ -10,5 +10,6 @@ pub place-spec : {M : Type 1} → statement M
 unfolding blockStart
 place-spec = tie.close (tie.spec
     (search needs)  -- mul-start
-    (search needs)  -- add-t
+    (search needs)  -- mul-t6
+    (search needs)  -- add-t7
     (λ c. (refl, refl, omega arith)))  -- returns

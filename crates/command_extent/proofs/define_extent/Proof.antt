@@ -42,7 +42,7 @@ returns-3 c =
     let at = c .before .before .before .before .before .before in
     let first = at .before .before .before .before .before .before in
     let a = first .args in
-    λ u. define-ends u (a .d) (a .chain .now) (a .c) (a .s) (a .main .now) (a .store .now) (first .pre .1) _ _ _ (c .define-by .ensures) (c .before .before .block-count .ensures) (c .before .before .before .before .fetch .ensures .0) (first .pre .2) (at .before .if1 .left) (at .if2 .left)
+    λ u. define-ends u (a .d) (a .chain .now) (a .c) (a .s) (a .main .now) (a .store .now) (first .pre .1) _ _ _ (c .define-by .ensures) (c .before .before .block-count .ensures) (c .before .before .before .before .fetch .ensures) (first .pre .2) (at .before .if1 .left) (at .if2 .left)
 
 pub define-extent-spec : {M : Type 1} → statement M
 define-extent-spec = tie.close (tie.spec

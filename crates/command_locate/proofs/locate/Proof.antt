@@ -1,6 +1,5 @@
 -- `locate` meets its contract. 30 and 31 are lines of its table; past them the eight bytes are there, and decide. Assumes nothing.
 use mathlib.Core.Path.{refl, _∙_}
-use native.Mathlib.Omega.{arith}
 use borrow.Author.Needs.{needs}
 use borrow.Author.Tests.{lt-ltb}
 use Rattle.slices.specs.Parts.{zeros}
@@ -43,7 +42,7 @@ returns-3 c =
     let at = c .before .before .before .before .before in
     let first = at .before .before .before .before .before .before in
     let a = first .args in
-    λ d store. locate-ends (a .u) d (a .chain .now) (a .c) (a .s) (a .main .now) store (first .pre .0) _ _ (c .locate-by .ensures) (c .before .before .before .fetch .ensures .0) (first .pre .1) (at .before .before .if1 .left) (at .if2 .left)
+    λ d store. locate-ends (a .u) d (a .chain .now) (a .c) (a .s) (a .main .now) store (first .pre .0) _ _ (c .locate-by .ensures) (c .before .before .before .fetch .ensures) (first .pre .1) (at .before .before .if1 .left) (at .if2 .left)
 
 pub locate-spec : {M : Type 1} → statement M
 locate-spec = tie.close (tie.spec

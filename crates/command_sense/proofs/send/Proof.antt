@@ -1,5 +1,4 @@
 -- `send` meets its contract. Assumes nothing.
-use mathlib.Core.Path.{_∙_}
 use Rattle.model.specs.Pieces.{delivered}
 use native.Mathlib.Omega.{arith}
 use borrow.Author.Needs.{needs}
@@ -18,7 +17,7 @@ unfolding delivered
 returns c =
     let sent = c .before .before .before .before in
     let n = sent .before .before .least .ensures in
-    (rw n at (sent .deliver .ensures .0), rw (c .before .after .ensures, n) at (c .accept .ensures))
+    (rw n at (sent .deliver .ensures), rw (c .before .after .ensures, n) at (c .accept .ensures))
 
 pub send-spec : {M : Type 1} → statement M
 send-spec = tie.close (tie.spec

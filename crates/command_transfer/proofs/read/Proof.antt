@@ -1,5 +1,4 @@
 -- `read` meets its contract. The cause that was found refuses it; where there is none a sound state places the blocks, which are moved. Assumes nothing.
-use Prim.Native.Nat.{_<_}
 use borrow.Author.Needs.{needs}
 use Rattle.model.specs.Parameters.{reads}
 use Rattle.command_transfer.proofs.Transfers.{reading, transfer-refused, Passed, passed, move-asks, done-asks, read-ends}

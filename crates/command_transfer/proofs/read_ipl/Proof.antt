@@ -30,9 +30,8 @@ read-blocks-requires c κs =
     let first = least .before .before .before .before .before .before in
     let h = first .pre .1 in
     let a = first .args in
-    let sound = first .pre .0 in
     record {
-      stored = record { device = sound .device; some = omega arith; inside = in-store (a .d) (a .store .now) 1 (sound .some-block) };
+      stored = record { inside = in-store (a .d) (a .store .now) 1 (first .pre .0 .some-block) };
       bytes = omega (arith, least .least .ensures);
       area = record { ccws = h .told .ccws; inside = h .inside; left = omega (arith, least .least .ensures, h .told .count) };
     }

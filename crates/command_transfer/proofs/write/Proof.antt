@@ -1,5 +1,4 @@
 -- `write` meets its contract, as `read` does. Assumes nothing.
-use Prim.Native.Nat.{_<_}
 use borrow.Author.Needs.{needs}
 use Rattle.model.specs.Parameters.{writes}
 use Rattle.command_transfer.proofs.Transfers.{writing, transfer-refused, Passed, passed, move-asks, done-asks, write-ends}

@@ -12,7 +12,7 @@ run-chain-requires c κs =
     let first = start .before .before .before .before .before in
     let a = first .args in
     let k = callable (a .d) (a .chain .now) (a .main .now) (a .store .now) (a .answers .now) (first .pre .1) in
-    (k .answered, omega (arith, k .few, k .whole), rw (start .start .ensures) (callable-sound (a .d) (a .chain .now) (a .main .now) (a .store .now) (a .answers .now) (a .u) (first .pre .0) k))
+    (k .closes, k .answered, omega (arith, k .few, k .whole), rw (start .start .ensures) (callable-sound (a .d) (a .chain .now) (a .main .now) (a .store .now) (a .answers .now) (a .u) (first .pre .0) k))
 
 returns : tie.Need-returns
 returns c =

@@ -6,7 +6,6 @@ use mathlib.Core.Path.{_≡_, sym, _∙_}
 use mathlib.Core.Bool.{true}
 use native.Mathlib.Omega.{arith}
 use borrow.Author.Tests.{not-true, not-false}
-use Rattle.model.specs.Lent.{flag}
 use Rattle.model.specs.Causes.{allChained}
 use Rattle.chain.proofs.Chained.{chained-none, chained-more, chained-not}
 use borrow.Author.Needs.{needs}
@@ -23,13 +22,11 @@ loop-holds : tie.Need-loop-holds Inv-loop μ-loop
 loop-holds c = (search needs, chained-none _)
 
 returns : tie.Need-returns Inv-loop μ-loop
-unfolding flag
 returns c =
     let asked = c .before in
     sym (chained-not _ _ _ _ (asked .before .piece-at .ensures .0) (sym (asked .another-follows .ensures) ∙ not-true _ (c .if1 .taken)) (search needs))
 
 loop-again : tie.Need-loop-again Inv-loop μ-loop
-unfolding flag
 loop-again c =
     let asked = c .before in
     let turn = asked .before .before .before in

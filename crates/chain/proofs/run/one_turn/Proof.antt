@@ -1,6 +1,7 @@
 -- `run::one_turn` meets its contract: the command, the step and the answers are those of `next`, and "go on" is `more`. Assumes nothing.
 use Prim.Native.Nat.{_<_}
 use native.Mathlib.Omega.{arith}
+use Rattle.model.proofs.Fields.{step-moved}
 use Rattle.chain.proofs.Runs.{begins-command, command-ccws, front-small, turned}
 use borrow.Author.Needs.{needs}
 use Rattle.chain.proofs.run.one_turn.Statement.{statement}
@@ -16,7 +17,12 @@ put-answers-requires c κs =
     let command = step .before .before .before in
     let first = command .before .before .before .before .before in
     let e = command .command-at .ensures in
-    (e .0 .0 .ccws, omega (arith, first .pre .room, command-ccws (first .args .chain .now) (first .args .at) (command .command-at .result) (e .1)), front-small (step .step .ensures))
+    let a = first .args in (
+      e .0 .0,
+      rw (step .step .ensures .moved, e .0 .0 .count) (step-moved (a .d) _ _ (a .main .now) (a .store .now)),
+      omega (arith, first .pre .room, command-ccws (a .chain .now) (a .at) (command .command-at .result) (e .1 .0)),
+      front-small (step .step .ensures),
+    )
 
 returns : tie.Need-returns
 returns c =
@@ -28,15 +34,15 @@ returns c =
     let e = command .command-at .ensures in
     let p = put .put-answers .ensures in
     λ i b.
-    let k = begins-command (a .chain .now) i (a .at) _ _ b (e .1) in
+    let k = begins-command (a .chain .now) i (a .at) _ _ b (e .1 .0) in
     turned (a .d) (a .chain .now) (a .at) i _ (a .u) (a .s) (a .main .now) (a .store .now) (a .answers .now) _ _ (step .step .result) (a .reached)
-    (e .0 .0) (k .0) (step .step .ensures) _ _ _ (p .0) (p .1 .0) (p .1 .1) (first .pre .sound .device) (few first) (c .goes-on .ensures) (k .1) (e .0 .1)
+    (e .0 .0) (k .0) (step .step .ensures) _ _ _ (p .0) (p .1 .0) (p .1 .1) (first .pre .sound .device) (few first) (c .goes-on .ensures) (k .1) (e .0 .1) (e .1 .1)
 
 pub one-turn-spec : {M : Type 1} → statement M
 one-turn-spec =
     tie.close
     (tie.spec
-    (λ c κs. let first = c .before .before .before .before in (omega (arith, first .pre .lent), first .pre .short))  -- command-at-requires
+    (λ c κs. let first = c .before .before .before .before in (first .pre .closes, first .pre .short))  -- command-at-requires
     (λ c κs. let command = c .before .before in (command .before .before .before .before .before .pre .sound, command .command-at .ensures .0 .0))  -- step-requires
     put-answers-requires
     (search needs)  -- goes-on-requires

@@ -1,88 +1,69 @@
 -- `run::run_chain` meets its contract. Invariant `Underway`: lengths kept, the state safe, a command begins here, and what is still to run from here gives the whole run; the CCWs left fall. Assumes nothing.
-use Prim.Native.Nat.{_-_, _<_}
-use mathlib.Core.Path.{_≡_, refl, sym, _∙_}
+use Prim.Native.Nat.{_-_}
+use mathlib.Core.Path.{refl, sym, _∙_}
 use lib.ListN.{length}
 use native.Mathlib.Omega.{arith}
-use borrow.Author.Needs.{needs}
 use borrow.Author.Tests.{not-true, not-false}
 use Rattle.model.specs.Pieces.{commandsIn}
 use Rattle.unit_state.specs.Standing.{Sound}
 use Rattle.chain.specs.Walk.{ccwsOf}
-use Rattle.chain.proofs.Runs.{given-walks, Underway, underway-start, underway-next, underway-stop, underway-done, sound-same}
+use Rattle.chain.proofs.Runs.{closes-some, given-walks, Underway, underway-start, underway-next, underway-stop, sound-same}
 use Rattle.chain.proofs.run.run_chain.Statement.{statement}
 use Rattle.chain.proofs.run.run_chain.Tie as tie
 
 abbrev Inv-loop : tie.InvT-loop
-Inv-loop d chain u main₀ store₀ answers₀ n state₀ at₀ reached₀ main store answers state at reached =
-    (n ≡ ccwsOf chain) × Underway d chain u main₀ store₀ answers₀ (length (commandsIn chain)) state₀ main store answers state at reached
+Inv-loop d chain u main₀ store₀ answers₀ state₀ at₀ reached₀ main store answers state at reached =
+    Underway d chain u main₀ store₀ answers₀ (length (commandsIn chain)) state₀ main store answers state at reached
 
 abbrev μ-loop : tie.MeasureT-loop
-μ-loop d chain u main₀ store₀ answers₀ n state₀ at₀ reached₀ main store answers state at reached = n - at
+μ-loop d chain u main₀ store₀ answers₀ state₀ at₀ reached₀ main store answers state at reached = ccwsOf chain - at
 
 loop-holds : tie.Need-loop-holds Inv-loop μ-loop
 loop-holds c =
     let first = c .before .before .before .before in
-    (refl, underway-start (first .args .d) _ (first .args .u) _ _ _ _ _ refl (first .pre .0) (first .pre .2 .safe (first .args .u)))
+    underway-start (first .args .d) _ (first .args .u) _ _ _ _ _ refl (first .pre .0) (first .pre .1) (first .pre .3 .safe (first .args .u))
 
 -- the state of a turn is sound
-sound : (c : tie.In-loop Inv-loop μ-loop) → let a = c .before .before .before .before .before .before .args in Sound (a .d) (c .before .loop .state) (c .before .loop .store)
+sound : (c : tie.At-loop Inv-loop μ-loop) → let a = c .before .before .before .before .before .args in Sound (a .d) (c .loop .state) (c .loop .store)
 sound c =
-    let first = c .before .before .before .before .before .before in
-    let l = c .before .loop in
-    sound-same (first .args .d) (first .args .u) (first .args .s) (l .state) (first .args .store .now) (l .store) (l .inv .1 .store-length) (first .pre .2) (l .inv .1 .safe)
-
--- it begins with a CCW of the chain
-lent : (c : tie.In-loop Inv-loop μ-loop) → c .before .loop .at < ccwsOf (c .before .before .before .before .before .before .args .chain .now)
-lent c = omega (arith, c .before .loop .inv .0, c .loop-test .taken)
+    let first = c .before .before .before .before .before in
+    let l = c .loop in
+    sound-same (first .args .d) (first .args .u) (first .args .s) (l .state) (first .args .store .now) (l .store) (l .inv .store-length) (first .pre .3) (l .inv .safe)
 
 one-turn-requires : tie.Need-one-turn-requires Inv-loop μ-loop
 one-turn-requires c κs =
     let turn = c .before .before .before in
-    let first = turn .before .before .before .before .before .before in
-    let under = turn .before .loop .inv .1 in
-    record { sound = sound turn; short = first .pre .1; lent = lent turn; room = omega (arith, under .room, under .answers-length) }
+    let first = turn .before .before .before .before .before in
+    let under = turn .loop .inv in
+    record { sound = sound turn; short = first .pre .2; closes = under .closes; room = omega (arith, under .room, under .answers-length) }
 
 returns : tie.Need-returns Inv-loop μ-loop
 returns c =
-    let done = c .before .before .before .before .before .before .before .before .before .before in
+    let done = c .before .before .before .before .before .before .before .before .before in
     let turn = done .before .before .before .before in
-    let a = turn .before .before .before .before .before .before .args in
-    let l = turn .before .loop in
-    let p = done .one-turn .ensures (l .inv .1 .command) (l .inv .1 .begins) in
+    let a = turn .before .before .before .before .before .args in
+    let l = turn .loop in
+    let p = done .one-turn .ensures (l .inv .command) (l .inv .begins) in
     given-walks (a .d) (a .chain .now) (a .u) (a .main .now) (a .store .now) (a .answers .now) _ (a .s) refl
-    (underway-stop (a .d) (a .chain .now) (a .u) (a .main .now) (a .store .now) (a .answers .now) _ (a .s) (l .main) (l .store) (l .answers) (l .state) (l .at) (l .reached) (l .inv .1) _ _ (lent turn)
+    (underway-stop (a .d) (a .chain .now) (a .u) (a .main .now) (a .store .now) (a .answers .now) _ (a .s) (l .main) (l .store) (l .answers) (l .state) (l .at) (l .reached) (l .inv) _ _
     (p .after) (sym (p .go) ∙ not-true _ (c .if1 .taken)) (p .left))
 
 loop-less : tie.Need-loop-less Inv-loop μ-loop
 loop-less c =
     let done = c .before .before .before .before .before .before .before .before .before .before in
     let turn = done .before .before .before .before in
-    let under = turn .before .loop .inv .1 in
-    omega (arith, done .one-turn .ensures (under .command) (under .begins) .on, turn .loop-test .taken)
+    let under = turn .loop .inv in
+    omega (arith, done .one-turn .ensures (under .command) (under .begins) .on, closes-some _ _ (under .closes))
 
 loop-again : tie.Need-loop-again Inv-loop μ-loop
 loop-again c =
     let done = c .before .before .before .before .before .before .before .before .before .before in
     let turn = done .before .before .before .before in
-    let a = turn .before .before .before .before .before .before .args in
-    let l = turn .before .loop in
-    let p = done .one-turn .ensures (l .inv .1 .command) (l .inv .1 .begins) in (
-      l .inv .0,
-      underway-next (a .d) (a .chain .now) (a .u) (a .main .now) (a .store .now) (a .answers .now) _ (a .s) (l .main) (l .store) (l .answers) (l .state) (l .at) (l .reached) (l .inv .1) _ _ _ (done .one-turn .result) (lent turn)
-          (sound turn .some-block) p (sym (p .go) ∙ not-false _ (c .if1 .left)),
-    )
-
-none-requires : tie.Need-none-requires Inv-loop μ-loop
-none-requires c κs = search needs
-
-returns-2 : tie.Need-returns-2 Inv-loop μ-loop
-returns-2 c =
-    let past = c .before in
-    let a = past .before .before .before .before .before .before .args in
-    let l = past .before .loop in
-    rw (c .none .ensures)
-    (given-walks (a .d) (a .chain .now) (a .u) (a .main .now) (a .store .now) (a .answers .now) _ (a .s) refl
-    (underway-done (a .d) (a .chain .now) (a .u) (a .main .now) (a .store .now) (a .answers .now) _ (a .s) (l .main) (l .store) (l .answers) (l .state) (l .at) (l .reached) (l .inv .1) (omega (arith, l .inv .0, past .loop-test .left))))
+    let a = turn .before .before .before .before .before .args in
+    let l = turn .loop in
+    let p = done .one-turn .ensures (l .inv .command) (l .inv .begins) in
+    underway-next (a .d) (a .chain .now) (a .u) (a .main .now) (a .store .now) (a .answers .now) _ (a .s) (l .main) (l .store) (l .answers) (l .state) (l .at) (l .reached) (l .inv) _ _ _ (done .one-turn .result)
+    (sound turn .some-block) p (sym (p .go) ∙ not-false _ (c .before .if1 .left))
 
 pub run-chain-spec : {M : Type 1} → statement M
 run-chain-spec =
@@ -97,9 +78,4 @@ run-chain-spec =
     (λ c. omega arith)  -- same-length-3
     returns
     loop-less
-    loop-again
-    none-requires
-    (λ c. omega arith)  -- same-length-4
-    (λ c. omega arith)  -- same-length-5
-    (λ c. omega arith)  -- same-length-6
-    returns-2)
+    loop-again)

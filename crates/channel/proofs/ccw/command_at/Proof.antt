@@ -7,8 +7,9 @@ use Rattle.channel.proofs.ccw.command_at.Tie as tie
 
 ccws-from-requires : tie.Need-ccws-from-requires
 ccws-from-requires c κs =
+    let s = c .before .before in
     let p = c .piece-at .ensures in
-    (omega arith, omega arith, p .0, p .1)
+    (s .pre .0, s .pre .1, p .0, p .1)
 
 returns : tie.Need-returns
 unfolding codeAt
@@ -25,14 +26,14 @@ returns c =
         },
         r .0 .0,
       ),
-      r .1 .1 .1,
+      (r .1 .1 .1 .0, r .1 .1 .1 .1),
     )
 
 pub command-at-spec : {M : Type 1} → statement M
 command-at-spec =
     tie.close
     (tie.spec
-    (search needs)  -- piece-at-requires
+    (λ c κs. let k = c .before .pre .0 in omega (arith, k .from, k .lent))  -- piece-at-requires
     ccws-from-requires
     (search needs)  -- add-next
     (search needs)  -- mul-t8
