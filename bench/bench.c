@@ -14,11 +14,14 @@
 #define EXTENT_AT 0u    // places in storage
 #define LOCATE_AT 16u
 #define DATA_AT 24u
+#define CLASS 100u      // chains of a class, of three commands each
 
 typedef uint32_t run_function(const uint8_t *, size_t, uint8_t *, size_t, uint8_t *, size_t, uint8_t *, size_t, uint8_t *, size_t);
 
 struct machine {
-    uint8_t chain[256], storage[DATA_AT + 127 * BLOCK], store[DEVICE_BLOCKS * BLOCK], record[34], answers[256];
+    uint8_t chain[CLASS * (2 + 3 * 8)]; // or, each after its length, those of a class
+    uint8_t storage[DATA_AT + 127 * BLOCK], store[DEVICE_BLOCKS * BLOCK], record[34];
+    uint8_t answers[CLASS * LOUGHRELLA_RESULT_SIZE(3 * 8)]; // or a class's results
     size_t chain_len;
 };
 
@@ -99,16 +102,31 @@ static void no_operations(struct machine *m)
     for (unsigned i = 0; i < 32; i++) word(m, 0x03, 0, i < 31 ? 0x40 : 0, 1);
 }
 
+static void class_read_1(struct machine *m)
+{
+    m->chain_len = 2;
+    read_1(m);
+    m->chain[0] = 0;
+    m->chain[1] = (uint8_t)(m->chain_len - 2);
+    for (unsigned i = 1; i < CLASS; i++) memcpy(m->chain + i * m->chain_len, m->chain, m->chain_len);
+    m->chain_len *= CLASS;
+}
+
+struct program { run_function *run, *run_class; };
+static const struct program library = {loughrella_run, loughrella_run_class}, second = {second_run, second_run_class};
+
 static const struct { const char *name; void (*make)(struct machine *); uint32_t result; } workloads[] = {
     {"read-1", read_1, 3}, {"read-127", read_127, 3}, {"write-1", write_1, 3}, {"write-127", write_127, 3},
     {"write-1-short", write_1_short, 3}, {"write-127-short", write_127_short, 3}, {"locate-read-15", read_15_pairs, 31},
     {"read-16-pieces", read_16_pieces, 18},
     {"refused-cause-1", refused_call, 256}, {"refused-first-command", refused_first, 1}, {"no-operation-32", no_operations, 32},
+    {"class-100-read-1", class_read_1, 0}, // the one whose function is that of a class
 };
 #define WORKLOADS (sizeof workloads / sizeof *workloads)
 
-static int run(size_t which, unsigned long times, run_function *function)
+static int run(size_t which, unsigned long times, const struct program *program)
 {
+    run_function *function = workloads[which].make == class_read_1 ? program->run_class : program->run;
     static struct machine m;
     for (size_t i = 0; i < sizeof m.store; i++) m.store[i] = (uint8_t)(i * 7 + i / BLOCK);
     for (size_t i = 0; i < sizeof m.storage; i++) m.storage[i] = (uint8_t)(i * 5);
@@ -130,7 +148,7 @@ int main(int argc, char **argv)
     }
     for (size_t i = 0; argc == 4 && i < WORKLOADS; i++)
         if (strcmp(argv[1], workloads[i].name) == 0)
-            return run(i, strtoul(argv[2], NULL, 10), strcmp(argv[3], "lib") == 0 ? loughrella_run : second_run);
+            return run(i, strtoul(argv[2], NULL, 10), strcmp(argv[3], "lib") == 0 ? &library : &second);
     fprintf(stderr, "usage: bench WORKLOAD N lib|second, or bench list\n");
     return 2;
 }

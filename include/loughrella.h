@@ -1,13 +1,14 @@
 /* Loughrella: a disk control unit to learn channel programming with (FIPS 97, fixed blocks of 512 bytes).
  *
- * Two functions. Neither keeps anything between calls, allocates, prints or fails: every input has its result, and all
- * that is written is in the buffers that are lent. They may run at the same time on buffers of their own.
+ * Three functions: a chain is run, a class of chains is run, a unit record is set up. None keeps anything between calls,
+ * allocates, prints or fails: every input has its result, and all that is written is in the buffers that are lent. They may
+ * run at the same time on buffers of their own.
  *
  * A buffer is a pointer and its length in bytes; where the length is 0 the pointer may be anything, NULL too. The caller
  * owns the buffers and gets them back when the function returns. The buffers of one call must not overlap: nothing is
  * promised where they do. Numbers in them are big-endian.
  *
- * Link with libloughrella.a (code for x86-64; it calls memcpy, memmove and memset).
+ * For C99 and later, and C++. Link with libloughrella.a (code for x86-64; it calls memcpy, memmove and memset).
  */
 #ifndef LOUGHRELLA_H
 #define LOUGHRELLA_H
@@ -19,7 +20,8 @@
 extern "C" {
 #endif
 
-/* Grows where a caller may have to change something.
+/* Grows with what this file offers, and says where a caller may have to change something.
+ *   4  loughrella_run_class, the walk over its results, and cause 7, which it alone gives. No caller has to change anything.
  *   3  Data chaining: flag 80 goes on with the same command in the next CCW. It was refused by cause 10. Chains without it are
  *      run as before. Where it is used there may be fewer answers than CCWs: who finds a CCW's answer by the CCW's number
  *      counts the pieces that were reached (see answers). And who takes unit status 00 for a program check looks for channel
@@ -28,7 +30,7 @@ extern "C" {
  *   2  The residual of a command that its parameters refused (causes 22 to 26, 32 to 39) is the count less the parameters,
  *      which were read. It was the whole count: who took it for that takes the count from the CCW.
  *   1  The first. */
-#define LOUGHRELLA_VERSION 3
+#define LOUGHRELLA_VERSION 4
 
 #define LOUGHRELLA_BLOCK_SIZE 512u       /* bytes of a block */
 #define LOUGHRELLA_MAX_BLOCKS 131072u    /* blocks of a store */
@@ -72,15 +74,85 @@ extern "C" {
 uint32_t loughrella_run(const uint8_t *chain, size_t chain_len, uint8_t *storage, size_t storage_len, uint8_t *store,
                         size_t store_len, uint8_t *record, size_t record_len, uint8_t *answers, size_t answers_len);
 
+/* Marks a class: runs the chains of one buffer on one device, in order, each as loughrella_run runs it on what the chains
+ * before it have left.
+ *
+ * chains   each chain after its length in bytes (2). A chain has any length, 0 too. Only read. An empty buffer is a class of no
+ *          chain, and right.
+ * storage, store, record
+ *          as above; each chain finds what the one before it has left.
+ * results  for each chain, in order and with no gap: its cause (2), the number of its answers (2), and room for one answer for
+ *          each 8 bytes of its length, rounded up: LOUGHRELLA_RESULT_SIZE in all. The answers begin at the front of the room;
+ *          bytes of it that they do not take stay as they are, and so do results behind all of these.
+ *
+ * Returns 0, whatever became of the chains: each has its own cause, 0 to 6 (never 4), in its own result. Or 256 times
+ * LOUGHRELLA_BAD_CLASS, with nothing run and no byte of any buffer changed.
+ *
+ * It costs what its chains cost one by one.
+ */
+uint32_t loughrella_run_class(const uint8_t *chains, size_t chains_len, uint8_t *storage, size_t storage_len, uint8_t *store,
+                              size_t store_len, uint8_t *record, size_t record_len, uint8_t *results, size_t results_len);
+
+/* The bytes of results that a chain of this length, 0 to 65,535, takes. */
+#define LOUGHRELLA_RESULT_SIZE(chain_len) (4u + ((size_t)(chain_len) + 7u) / 8u * LOUGHRELLA_ANSWER_SIZE)
+
+/* A walk over the results of a class, from chain to chain, after a call that returned 0:
+ *
+ *     struct loughrella_walk at = loughrella_walk_results(chains, chains_len, results, results_len);
+ *     while (loughrella_next_result(&at))
+ *         printf("cause %u, %u answers\n", at.cause, at.reached);
+ */
+struct loughrella_walk {
+    /* the chain that the walk has come to, and its result */
+    const uint8_t *chain;
+    size_t chain_len;
+    unsigned cause, reached;
+    const uint8_t *answers; /* as many as were reached, 8 bytes each */
+
+    /* what lies ahead */
+    const uint8_t *chains, *results;
+    size_t chains_len, results_len;
+};
+
+/* A walk that has not come to a chain yet. */
+static inline struct loughrella_walk loughrella_walk_results(const uint8_t *chains, size_t chains_len, const uint8_t *results,
+                                                             size_t results_len)
+{
+    struct loughrella_walk at = {NULL, 0, 0, 0, NULL, chains, results, chains_len, results_len};
+    return at;
+}
+
+/* Goes to the next chain: 1; or 0, with the walk as it was, behind the last one. Whatever the bytes are, it reads nothing outside
+ * the two buffers and ends: where no whole chain with room for its result lies ahead. */
+static inline int loughrella_next_result(struct loughrella_walk *at)
+{
+    size_t length, size;
+
+    if (at->chains_len < 2) return 0;
+    length = (size_t)at->chains[0] << 8 | at->chains[1];
+    size = LOUGHRELLA_RESULT_SIZE(length);
+    if (at->chains_len - 2 < length || at->results_len < size) return 0;
+    at->chain = at->chains + 2;
+    at->chain_len = length;
+    at->cause = (unsigned)at->results[0] << 8 | at->results[1];
+    at->reached = (unsigned)at->results[2] << 8 | at->results[3];
+    at->answers = at->results + 4;
+    at->chains += 2 + length;
+    at->chains_len -= 2 + length;
+    at->results += size;
+    at->results_len -= size;
+    return 1;
+}
+
 /* Sets up the record of a unit: no sense, all counts zero, the two bytes as given (0 is no, any other value is yes).
  * Returns 0; or 256 times LOUGHRELLA_BAD_RECORD, with nothing written, where the record is not 34 bytes. */
 uint32_t loughrella_record(uint8_t *record, size_t record_len, uint8_t ready, uint8_t read_only);
 
-/* The two parts of the result of loughrella_run: the cause, and the number of answers. */
+/* The two parts of what is returned: the cause; and, by loughrella_run, the number of answers. */
 #define LOUGHRELLA_CAUSE(result) ((result) / 256u)
 #define LOUGHRELLA_REACHED(result) ((result) % 256u)
 
-/* The causes: of a call (in its result), and of a refused command (in its answer). */
+/* The causes: of a call (returned; of a chain of a class, in its result), and of a refused command (in its answer). */
 enum loughrella_cause {
     LOUGHRELLA_ACCEPTED = 0,
 
@@ -91,6 +163,9 @@ enum loughrella_cause {
     LOUGHRELLA_BAD_ANSWERS = 4,   /* answers shorter than the chain */
     LOUGHRELLA_ENDLESS_CHAIN = 5, /* every CCW has flag 80 or 40 */
     LOUGHRELLA_BAD_RECORD = 6,    /* the unit record is not 34 bytes */
+
+    /* the class was refused: nothing was run and nothing written */
+    LOUGHRELLA_BAD_CLASS = 7, /* the lengths do not end at the buffer's end, or the results are shorter than all that room */
 
     /* program checks: unit status 00, channel status 20; the unit did not see the command. 13 first, then 10 to 12 piece by
      * piece; whichever piece it is, the answer is the first piece's, with its own count as residual */

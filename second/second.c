@@ -12,6 +12,10 @@
 #define MAX_BLOCKS 131072u
 #define MAX_STORAGE 16777216u
 
+// A class (02, ask 3): what stands before each chain, and before the answers in its result.
+#define LENGTH_SIZE 2u
+#define HEAD_SIZE 4u
+
 // The unit record's places. The sense comes first.
 enum { SENSE_SIZE = 24, BLOCKS_READ = 24, BLOCKS_CHECKED = 27, MOVEMENTS = 30, READY = 32, READ_ONLY = 33, RECORD_SIZE = 34 };
 
@@ -391,6 +395,42 @@ uint32_t second_run(const uint8_t *chain, size_t chain_len, uint8_t *storage, si
     struct command c;
     for (const uint8_t *ccw = chain; run_command(&r, &c, ccw); ccw = c.next) r.before = c.code;
     return (uint32_t)(r.answer - answers) / ANSWER_SIZE;
+}
+
+// The room for a chain's answers: one for each 8 bytes of its length, rounded up. So a chain whose length is right has as many
+// bytes as it needs, and cause 4 cannot come.
+static size_t answer_room(size_t length) { return (length + CCW_SIZE - 1) / CCW_SIZE * ANSWER_SIZE; }
+
+// Whether the last chain ends where the buffer does and the results have room for all of them: else cause 7.
+static bool class_fits(const uint8_t *chains, size_t chains_len, size_t results_len)
+{
+    while (chains_len > 0) {
+        if (chains_len < LENGTH_SIZE) return false;
+        size_t length = get16(chains), size = HEAD_SIZE + answer_room(length);
+        if (chains_len - LENGTH_SIZE < length || results_len < size) return false;
+        chains += LENGTH_SIZE + length;
+        chains_len -= LENGTH_SIZE + length;
+        results_len -= size;
+    }
+    return true;
+}
+
+uint32_t second_run_class(const uint8_t *chains, size_t chains_len, uint8_t *storage, size_t storage_len,
+                          uint8_t *store, size_t store_len, uint8_t *record, size_t record_len,
+                          uint8_t *results, size_t results_len)
+{
+    if (!class_fits(chains, chains_len, results_len)) return 256 * 7;
+    while (chains_len > 0) {
+        size_t length = get16(chains), room = answer_room(length);
+        uint32_t result = second_run(chains + LENGTH_SIZE, length, storage, storage_len, store, store_len, record, record_len,
+                                     results + HEAD_SIZE, room);
+        put16(results, result / 256);
+        put16(results + 2, result % 256);
+        chains += LENGTH_SIZE + length;
+        chains_len -= LENGTH_SIZE + length;
+        results += HEAD_SIZE + room;
+    }
+    return 0;
 }
 
 uint32_t second_record(uint8_t *record, size_t record_len, uint8_t ready, uint8_t read_only)

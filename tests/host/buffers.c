@@ -23,7 +23,7 @@ struct area {
 const char *const buffer_names[BUFFERS] = {"chain", "storage", "store", "record", "answers"};
 
 // Room for each buffer at its largest, and for the lengths that are just over.
-static const size_t room[BUFFERS] = {PAGE, MAX_STORAGE + PAGE, (size_t)MAX_BLOCKS * BLOCK + PAGE, PAGE, PAGE};
+static const size_t room[BUFFERS] = {MAX_CLASS, MAX_STORAGE + PAGE, (size_t)MAX_BLOCKS * BLOCK + PAGE, PAGE, MAX_CLASS};
 static struct area areas[2][BUFFERS];
 
 static sigjmp_buf after_fault;
@@ -112,7 +112,17 @@ bool buffers_equal(const struct buffers *library, const struct buffers *twin)
     return true;
 }
 
-uint32_t call_library(const struct buffers *b)
+// What a chain and a class are run by: both have the same arguments.
+typedef uint32_t run_function(const uint8_t *chain, size_t chain_len, uint8_t *storage, size_t storage_len, uint8_t *store,
+                              size_t store_len, uint8_t *record, size_t record_len, uint8_t *answers, size_t answers_len);
+
+static uint32_t call(run_function *run, const struct buffers *b)
+{
+    return run(b->at[CHAIN], b->length[CHAIN], b->at[STORAGE], b->length[STORAGE], b->at[STORE], b->length[STORE],
+               b->at[RECORD], b->length[RECORD], b->at[ANSWERS], b->length[ANSWERS]);
+}
+
+static uint32_t call_guarded(run_function *run, const struct buffers *b)
 {
     int signal = sigsetjmp(after_fault, 1);
     if (signal != 0) {
@@ -121,17 +131,15 @@ uint32_t call_library(const struct buffers *b)
         return FAULT;
     }
     calling = 1;
-    uint32_t result = loughrella_run(b->at[CHAIN], b->length[CHAIN], b->at[STORAGE], b->length[STORAGE], b->at[STORE],
-                                     b->length[STORE], b->at[RECORD], b->length[RECORD], b->at[ANSWERS], b->length[ANSWERS]);
+    uint32_t result = call(run, b);
     calling = 0;
     return result;
 }
 
-uint32_t call_second(const struct buffers *b)
-{
-    return second_run(b->at[CHAIN], b->length[CHAIN], b->at[STORAGE], b->length[STORAGE], b->at[STORE],
-                      b->length[STORE], b->at[RECORD], b->length[RECORD], b->at[ANSWERS], b->length[ANSWERS]);
-}
+uint32_t call_library(const struct buffers *b) { return call_guarded(loughrella_run, b); }
+uint32_t call_library_class(const struct buffers *b) { return call_guarded(loughrella_run_class, b); }
+uint32_t call_second(const struct buffers *b) { return call(second_run, b); }
+uint32_t call_second_class(const struct buffers *b) { return call(second_run_class, b); }
 
 uint32_t call_library_record(uint8_t *record, size_t length, uint8_t ready, uint8_t read_only)
 {
@@ -143,6 +151,20 @@ uint32_t call_library_record(uint8_t *record, size_t length, uint8_t ready, uint
     }
     calling = 1;
     uint32_t result = loughrella_record(record, length, ready, read_only);
+    calling = 0;
+    return result;
+}
+
+int call_next_result(struct loughrella_walk *at)
+{
+    int signal = sigsetjmp(after_fault, 1);
+    if (signal != 0) {
+        calling = 0;
+        printf("  the header's walk ended with signal %d\n", signal);
+        return -1;
+    }
+    calling = 1;
+    int result = loughrella_next_result(at);
     calling = 0;
     return result;
 }

@@ -67,8 +67,8 @@ static void fill_chain(const struct buffers *b, uint8_t last)
     if (length >= 8) b->at[CHAIN][(length - 1) / 8 * 8 + 4 < length ? (length - 1) / 8 * 8 + 4 : 4] = last;
 }
 
-// Fills all but the chain so that a byte written anywhere shows; a ready unit with sense and counts.
-static void fill_rest(const struct buffers *b)
+// Of a ready unit, with sense and counts.
+void fill_rest(const struct buffers *b)
 {
     if (b->length[STORAGE] > 0) memset(b->at[STORAGE], 0xD1, b->length[STORAGE]);
     if (b->length[STORE] > 0) memset(b->at[STORE], 0xD2, b->length[STORE]);

@@ -10,6 +10,7 @@
 struct maker {
     struct random *r;
     const struct buffers *library, *twin;
+    size_t chain;                   // where the chain begins in its buffer: 0, but for the chains of a class
     uint32_t words, limit;          // command words so far, and how many there shall be
     uint32_t storage, blocks;       // bytes of storage, blocks of the store
     uint32_t parameters;            // where the next parameters go
@@ -73,7 +74,7 @@ static void put_word(struct maker *m, uint32_t command, uint32_t address, uint32
     if ((flags & 0x80) == 0) flags |= 0x40;
     uint8_t word[8] = {(uint8_t)command, (uint8_t)(address >> 16), (uint8_t)(address >> 8), (uint8_t)address,
                        (uint8_t)flags, (uint8_t)random_next(m->r), (uint8_t)(count >> 8), (uint8_t)count};
-    put(m, CHAIN, 8 * (size_t)m->words, word, 8);
+    put(m, CHAIN, m->chain + 8 * (size_t)m->words, word, 8);
     m->words++;
 }
 
@@ -403,7 +404,7 @@ static void damage_lengths(struct random *r, size_t length[BUFFERS])
 // ---- The whole input.
 
 // Counts zero, anything, or near their largest values.
-static void make_record(struct random *r, uint8_t record[RECORD_SIZE], bool careful)
+void generate_record(struct random *r, uint8_t record[RECORD_SIZE], bool careful)
 {
     memset(record, 0, RECORD_SIZE);
     if (percent(r, 50)) random_fill(r, record, 24);
@@ -427,13 +428,33 @@ static void end_chain(struct maker *m)
     uint32_t way = random_below(m->r, 250);
     if (m->words == 0 || way == 0) return;
     uint32_t last = percent(m->r, 8) ? random_below(m->r, m->words) : m->words - 1;
-    size_t at = 8 * (size_t)last + 4;
+    size_t at = m->chain + 8 * (size_t)last + 4;
     if (at >= m->library->length[CHAIN]) return;
     uint8_t flags = (m->library->at[CHAIN][at] & 0x3F) | (way == 1 ? 0x80 : 0);
     put(m, CHAIN, at, &flags, 1);
 }
 
-static void fill(struct random *r, const struct buffers *library, const struct buffers *twin, bool large)
+// The chain's words, or every byte as it is but for the end.
+static void make_chain(struct maker *m, bool meaningful)
+{
+    while (meaningful && m->words < m->limit) make_step(m);
+    m->words = m->limit;
+    end_chain(m);
+}
+
+void generate_chain(struct random *r, const struct buffers *library, const struct buffers *twin, size_t at, uint32_t words,
+                    uint32_t *parameters)
+{
+    uint32_t blocks = (uint32_t)(library->length[STORE] / BLOCK);
+    struct maker m = {.r = r, .library = library, .twin = twin, .chain = at, .limit = words, .parameters = *parameters,
+                      .storage = (uint32_t)library->length[STORAGE], .blocks = blocks > 0 ? blocks : 1};
+    m.careful = percent(r, 60);
+    m.in_pieces = percent(r, 40);
+    make_chain(&m, m.careful || percent(r, 95));
+    *parameters = m.parameters;
+}
+
+void generate_fill(struct random *r, const struct buffers *library, const struct buffers *twin, bool large)
 {
     struct buffers from = *library, to = *twin;
     for (int i = 0; i < BUFFERS; i++) {
@@ -448,7 +469,7 @@ void generate_large_contents(struct random *r)
     static const size_t length[BUFFERS] = {0, MAX_STORAGE + 65536, STORE_MAX + 65536, 0, 0};
     struct buffers library, twin;
     buffers_place(&library, &twin, length, false);
-    fill(r, &library, &twin, false);
+    generate_fill(r, &library, &twin, false);
 }
 
 void generate(struct random *r, struct buffers *library, struct buffers *twin, uint32_t large)
@@ -470,13 +491,8 @@ void generate(struct random *r, struct buffers *library, struct buffers *twin, u
     length[ANSWERS] = length[CHAIN] + (percent(r, 50) ? 0 : random_below(r, 20));
     if (large == 0) damage_lengths(r, length);
     buffers_place(library, twin, length, percent(r, 50));
-    fill(r, library, twin, large != 0);
-    if (m.careful || percent(r, 95)) {
-        while (m.words < m.limit) make_step(&m);
-    } else {
-        m.words = m.limit; // every byte random but for the end
-    }
-    end_chain(&m);
-    make_record(r, record, m.careful);
+    generate_fill(r, library, twin, large != 0);
+    make_chain(&m, m.careful || percent(r, 95));
+    generate_record(r, record, m.careful);
     if (m.careful || percent(r, 97)) put(&m, RECORD, 0, record, RECORD_SIZE);
 }

@@ -1,5 +1,5 @@
 // The host test: calls the library under test and counts what passed.
-//   host_test [chains [seed]]
+//   host_test [chains [seed]]     random chains, and a tenth as many random classes
 #include "test.h"
 
 #include <stdio.h>
@@ -26,7 +26,9 @@ int main(int argc, char **argv)
     test_causes();
     test_pieces();
     test_calls();
+    test_class();
     test_bounds(seed);
+    test_class_random(chains / 10, seed);
     test_random(chains, seed);
     printf("%u passed, %u failed\n", passed, failed);
     return failed == 0 ? 0 : 1;

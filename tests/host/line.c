@@ -2,6 +2,7 @@
 #include "test.h"
 
 #include <ctype.h>
+#include <stdarg.h>
 #include <stdio.h>
 #include <stdlib.h>
 #include <string.h>
@@ -37,6 +38,15 @@ size_t text_bytes(uint8_t *to, size_t room, const char *text)
     return n;
 }
 
+void add(struct text *t, const char *format, ...)
+{
+    va_list values;
+    va_start(values, format);
+    t->n += (size_t)vsnprintf(t->s + t->n, sizeof t->s - t->n, format, values);
+    va_end(values);
+    if (t->n >= sizeof t->s) abort();
+}
+
 static void apply(uint8_t *to, size_t length, const struct change *changes, size_t count)
 {
     for (size_t i = 0; i < count; i++)
@@ -64,31 +74,56 @@ static void build_after(const struct line *line, const struct buffers *b)
     if (line->log != NULL) text_bytes(b->at[RECORD] + 24, 8, line->log);
 }
 
-static bool line_holds_at(const struct line *line, bool at_end)
+// All lengths but the answers'.
+static void line_lengths(const struct line *line, size_t length[BUFFERS])
 {
-    struct buffers library, twin;
-    size_t length[BUFFERS];
-    length[CHAIN] = text_bytes(NULL, MAX_CHAIN, line->chain);
+    length[CHAIN] = text_bytes(NULL, MAX_CLASS, line->chain);
     length[STORAGE] = text_bytes(NULL, MAX_STORAGE, line->storage);
     length[STORE] = (size_t)BLOCK * (line->blocks != 0 ? line->blocks : 8);
     length[RECORD] = RECORD_SIZE;
-    length[ANSWERS] = length[CHAIN] + BEYOND;
+}
+
+static bool call_holds(const struct line *line, uint32_t (*call)(const struct buffers *), const size_t length[BUFFERS],
+                       uint32_t expected, bool at_end)
+{
+    struct buffers library, twin;
     buffers_place(&library, &twin, length, at_end);
     build_before(line, &library);
     buffers_copy(&library, &twin);
     build_after(line, &twin);
-    uint32_t expected = (uint32_t)(text_bytes(NULL, MAX_CHAIN, line->answers) / 8), result = call_library(&library);
+    uint32_t result = call(&library);
     if (result != expected) printf("  result %lu, not %lu\n", (unsigned long)result, (unsigned long)expected);
     return buffers_equal(&library, &twin) && result == expected;
 }
 
+static bool line_holds_at(const struct line *line, bool at_end)
+{
+    size_t length[BUFFERS];
+    line_lengths(line, length);
+    length[ANSWERS] = length[CHAIN] + BEYOND;
+    return call_holds(line, call_library, length, (uint32_t)(text_bytes(NULL, MAX_CHAIN, line->answers) / 8), at_end);
+}
+
 bool line_holds(const struct line *line) { return line_holds_at(line, true) && line_holds_at(line, false); }
 
-void check_lines(const char *part, const struct line *lines, size_t count)
+static bool class_holds_with(const struct line *line, size_t beyond)
+{
+    size_t length[BUFFERS];
+    line_lengths(line, length);
+    length[ANSWERS] = text_bytes(NULL, MAX_CLASS, line->answers) + beyond;
+    return call_holds(line, call_library_class, length, 0, true) && call_holds(line, call_library_class, length, 0, false);
+}
+
+bool class_holds(const struct line *line) { return class_holds_with(line, 0) && class_holds_with(line, BEYOND); }
+
+static void check_each(const char *part, const struct line *lines, size_t count, bool (*holds_as)(const struct line *))
 {
     for (size_t i = 0; i < count; i++) {
-        bool holds = line_holds(&lines[i]);
+        bool holds = holds_as(&lines[i]);
         if (!holds) printf("  why: %s\n", lines[i].why);
         check(part, lines[i].name, holds);
     }
 }
+
+void check_lines(const char *part, const struct line *lines, size_t count) { check_each(part, lines, count, line_holds); }
+void check_classes(const char *part, const struct line *lines, size_t count) { check_each(part, lines, count, class_holds); }

@@ -2,26 +2,9 @@
 #include "test.h"
 #include "words.h"
 
-#include <stdarg.h>
 #include <stdio.h>
-#include <stdlib.h>
 
 #define ONE_MOVEMENT LOG("000000", "000000", "0001")
-
-// Text in the making: a chain, its answers, or bytes of a buffer.
-struct text {
-    char s[4096];
-    size_t n;
-};
-
-static void add(struct text *t, const char *format, ...)
-{
-    va_list values;
-    va_start(values, format);
-    t->n += (size_t)vsnprintf(t->s + t->n, sizeof t->s - t->n, format, values);
-    va_end(values);
-    if (t->n >= sizeof t->s) abort();
-}
 
 // Parameters are gathered.
 static const struct line gather_lines[] = {

@@ -8,6 +8,7 @@
 
 #define BLOCK 512u
 #define MAX_CHAIN 256u
+#define MAX_CLASS 262144u // the most that is lent here for the chains of a class, or for its results; whole guard pages
 #define MAX_BLOCKS 131072u
 #define MAX_STORAGE 16777216u
 #define RECORD_SIZE 34u
@@ -36,11 +37,16 @@ void buffers_copy(const struct buffers *library, const struct buffers *twin);
 // Whether the buffers, and the bytes around them, are equal; prints the first byte that differs.
 bool buffers_equal(const struct buffers *library, const struct buffers *twin);
 
-// ---- Calls. A call of the library that faults returns FAULT.
+// ---- Calls. A call of the library that faults returns FAULT. A class has its chains in CHAIN, its results in ANSWERS.
 #define FAULT UINT32_MAX
 uint32_t call_library(const struct buffers *b);
+uint32_t call_library_class(const struct buffers *b);
 uint32_t call_second(const struct buffers *b);
+uint32_t call_second_class(const struct buffers *b);
 uint32_t call_library_record(uint8_t *record, size_t length, uint8_t ready, uint8_t read_only);
+struct loughrella_walk;
+int call_next_result(struct loughrella_walk *at); // the header's walk; -1 where it faults
+void fill_rest(const struct buffers *b);          // all but the chain, so that a byte written anywhere shows; the unit is ready
 void print_input(const struct buffers *b, const uint8_t record_before[RECORD_SIZE]);
 
 // ---- Lines by hand (line.c). Bytes are text: hexadecimal, spaces anywhere between bytes, N*XX for a repeated byte.
@@ -64,7 +70,19 @@ struct line {
 
 size_t text_bytes(uint8_t *to, size_t room, const char *text); // to may be NULL: the length alone
 bool line_holds(const struct line *line);
+
+// A line that is a class: its chain is all the chains, each after its length; its answers are the results whole, EE where they
+// stay. They are lent exactly, and with more bytes than are needed.
+bool class_holds(const struct line *line);
 void check_lines(const char *part, const struct line *lines, size_t count);
+void check_classes(const char *part, const struct line *lines, size_t count);
+
+// Text in the making: a chain, its answers, or bytes of a buffer.
+struct text {
+    char s[8192];
+    size_t n;
+};
+void add(struct text *t, const char *format, ...);
 
 // ---- Random numbers, the same on every machine, and inputs made of them (generate.c).
 struct random {
@@ -79,6 +97,13 @@ void random_fill(struct random *r, uint8_t *to, size_t length);
 void generate(struct random *r, struct buffers *library, struct buffers *twin, uint32_t large);
 void generate_large_contents(struct random *r);
 
+// The parts of an input: every byte random (but for storage and store, where large); the words of one chain from this place of
+// CHAIN on, with its parameters in storage behind those of the chains before; a record.
+void generate_fill(struct random *r, const struct buffers *library, const struct buffers *twin, bool large);
+void generate_chain(struct random *r, const struct buffers *library, const struct buffers *twin, size_t at, uint32_t words,
+                    uint32_t *parameters);
+void generate_record(struct random *r, uint8_t record[RECORD_SIZE], bool careful);
+
 // ---- The parts.
 void test_lines(void);
 void test_causes(void);
@@ -86,5 +111,7 @@ void test_pieces(void);
 void test_calls(void);
 void test_random(uint32_t chains, uint64_t seed);
 void test_bounds(uint64_t seed);
+void test_class(void);
+void test_class_random(uint32_t classes, uint64_t seed);
 
 #endif

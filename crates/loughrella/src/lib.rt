@@ -1,16 +1,19 @@
-// What C calls: a chain run, and a unit record set up. include/loughrella.h says it to a C programmer. Neither has a
-// requires: any slices get the result, and are left with the bytes, that the definition says.
+// What C calls: a chain run, a class of chains run, and a unit record set up. include/loughrella.h says it to a C programmer. None
+// has a requires: any slices get the result, and are left with the bytes, that the definition says.
+pub mod class;
+pub mod host;
+
+use crate::class::class_wrong;
+use crate::class::mark_each;
+use crate::host::host_cause;
+use crate::host::run_hosted;
 use chain::call::result_of;
-use chain::call::run_allowed;
-use chain::causes::call_cause;
-use model::device::Device;
 use model::sizes;
 use record::new_record;
 use record::pack;
-use record::pack_left;
-use record::unpack;
 ghost use mathlib.Core.Path.{_≡_};
 ghost use Rattle.model.specs.Host.{hostCall, setUp};
+ghost use Rattle.model.specs.Class.{runClass};
 
 // The chain is run. 256 times the cause plus the commands reached.
 #[no_mangle]
@@ -24,18 +27,31 @@ pub extern "C" fn loughrella_run(
     ensures { λ r. ⌜ record { result = r; main = now (storage .exit); store = now (store .exit); unit = now (unit .exit); answers = now (answers .exit) }
         ≡ hostCall (now (chain .entry)) (now (storage .entry)) (now (store .entry)) (now (unit .entry)) (now (answers .entry)) ⌝ }
 {
-    let d = Device::class_a();
-    let cause = call_cause(d, chain, storage, store, answers);
+    let cause = host_cause(chain, storage, store, unit, answers);
     if cause != 0 {
         return result_of(cause, 0);
     }
-    if unit.len() != sizes::RECORD {
-        return result_of(6, 0);
+    let reached = run_hosted(chain, storage, store, unit, answers);
+    result_of(0, reached)
+}
+
+// A class is run: the chains of one buffer, one after the other. 0, or 256 times 7.
+#[no_mangle]
+pub extern "C" fn loughrella_run_class(
+    chains: &[u8],
+    storage: &mut [u8],
+    store: &mut [u8],
+    unit: &mut [u8],
+    results: &mut [u8],
+) -> u32
+    ensures { λ r. ⌜ record { result = r; left = record { main = now (storage .exit); store = now (store .exit); unit = now (unit .exit); results = now (results .exit) } }
+        ≡ runClass (now (chains .entry)) (now (storage .entry)) (now (store .entry)) (now (unit .entry)) (now (results .entry)) ⌝ }
+{
+    if class_wrong(chains, results.len()) {
+        return result_of(7, 0);
     }
-    let ran = run_allowed(d, unpack(unit), chain, storage, store, answers);
-    let left = ran.left;
-    pack_left(left, unit);
-    result_of(0, ran.reached)
+    mark_each(chains, storage, store, unit, results);
+    0
 }
 
 // The record of a new unit, ready or not, read-only or not. 0, or 256 times 6.

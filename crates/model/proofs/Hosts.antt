@@ -1,4 +1,5 @@
 -- The call from C.
+--     host-verdict    the first of 1 to 6 that holds, by the first of 1 to 5
 --     host-is-call    where there are 34 bytes of record, it is the call on the unit record that they hold
 --     host-no-record  where there are not, it is refused: by the call's own cause, or by 6
 --     set-up-record, set-up-none
@@ -42,7 +43,7 @@ module _ (dev : Device) (chain main store unit answers : List ℕ) where
       (none-given _ (f .0), eqb-true _ _ (not-false _ (g .0)))
 
   -- the verdict of 1 to 6, by that of 1 to 5
-  host-verdict : firstOf (hostCauses dev chain main store unit answers)
+  pub host-verdict : firstOf (hostCauses dev chain main store unit answers)
       ≡ pick (firstOf (callCauses dev chain main store answers) =? 0) (pick (not (length unit =? recordSize)) 6 0) (firstOf (callCauses dev chain main store answers))
   unfolding hostCauses callCauses firstOf
   host-verdict = first-append (callCauses dev chain main store answers) (6 when not (length unit =? recordSize) ∷ []) refl
@@ -58,10 +59,6 @@ module _ (dev : Device) (chain main store unit answers : List ℕ) where
       rw (same-verdict e)
       (pick-ind (λ (r : Hosted). r ≡ hosted (callOf dev chain main store (recordOf unit) answers)) _ _ _ (λ _. refl)
       (λ b. rw (call-refused dev chain main store (recordOf unit) answers _ refl (eqb-false _ _ b), bytes-back unit e)))
-
-  pub host-call-refused : (w : ℕ) → firstOf (callCauses dev chain main store answers) ≡ w → (w ≡ 0 → ⊥)
-      → hostCallOf dev chain main store unit answers ≡ record { result = resultOf w 0; main = main; store = store; unit = unit; answers = answers }
-  host-call-refused w e n = host-refused dev chain main store unit answers w (host-verdict ∙ rw e (pick-false _ _ _ (ne-eqb _ _ n))) n
 
   pub host-no-record : (w : ℕ) → (length unit ≡ recordSize → ⊥) → firstOf (callCauses dev chain main store answers) ≡ w
       → hostCallOf dev chain main store unit answers ≡ record { result = resultOf (pick (w =? 0) 6 w) 0; main = main; store = store; unit = unit; answers = answers }

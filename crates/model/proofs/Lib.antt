@@ -12,9 +12,12 @@ pub mod Fields
 pub mod Kept
 pub mod Records
 pub mod Hosts
+pub mod Class
 pub mod Exactly
 pub mod Read
 pub mod Reached
+pub mod OneByOne
+pub mod Written
 pub mod Places
 pub mod Alike
 pub mod AlikeVerdicts
@@ -24,6 +27,7 @@ pub mod Opened
 pub mod Inputs
 pub mod Worked
 pub mod WorkedPieces
+pub mod WorkedClass
 pub mod Overruled
 pub mod Corners
 pub mod WrongUnits

@@ -15,8 +15,10 @@ use Rattle.model.specs.Commands.{after, extentSet, locateSet, noOperatio
 use Rattle.model.specs.Answer.{wrongLength, channelStatus, residual, filled, answerOf, answersOf, answered, goesOn}
 use Rattle.model.specs.Chain.{stepAt, next, more, run, start, callOf}
 use Rattle.model.specs.Host.{resultOf, hostCallOf, setUp}
+use Rattle.model.specs.Class.{chainsFrom, chainsIn, resultSize, resultsOf, resultHead, markOf, markEachOf, badClass, runClassOf}
+use Rattle.model.specs.Written.{written}
 use Rattle.model.specs.Reached.{found}
 
 unfoldable pub opened : ℕ
-unfolding bit anyBit zeros part put pad pick oneOf firstOf codeAt pieceAt flag continues commandsFrom commandsIn commandAt counts finalOf bytesIn fetched scattered delivered spread blockStart blockCount blockAt blocksFrom blocksInto recordBytes recordOf newRecord extentIn reservedIn sizeIn locatedIn modifiersIn replicationIn processed forbids address outside bytesRead allChained callCauses hostCauses testedOf channelCauses unitCauses defineExtentCauses extentCauses locateCauses locationCauses permissionCauses readIplCauses transferCauses ownCauses causesOf verdict rowIn shown senseOf withSense withCounts added3 added2 readCounted writtenCounted movementCounted logOf logReset after extentSet locateSet noOperation defineExtent defineDone locate locateDone sent sense senseType readLog begun read readDone write writeDone wholeDevice readIpl iplDone accepted refused cleared seen decided performed step wrongLength channelStatus residual filled answerOf answersOf answered goesOn stepAt next more run start callOf resultOf hostCallOf setUp found
+unfolding bit anyBit zeros part put pad pick oneOf firstOf codeAt pieceAt flag continues commandsFrom commandsIn commandAt counts finalOf bytesIn fetched scattered delivered spread blockStart blockCount blockAt blocksFrom blocksInto recordBytes recordOf newRecord extentIn reservedIn sizeIn locatedIn modifiersIn replicationIn processed forbids address outside bytesRead allChained callCauses hostCauses testedOf channelCauses unitCauses defineExtentCauses extentCauses locateCauses locationCauses permissionCauses readIplCauses transferCauses ownCauses causesOf verdict rowIn shown senseOf withSense withCounts added3 added2 readCounted writtenCounted movementCounted logOf logReset after extentSet locateSet noOperation defineExtent defineDone locate locateDone sent sense senseType readLog begun read readDone write writeDone wholeDevice readIpl iplDone accepted refused cleared seen decided performed step wrongLength channelStatus residual filled answerOf answersOf answered goesOn stepAt next more run start callOf resultOf hostCallOf setUp chainsFrom chainsIn resultSize resultsOf resultHead markOf markEachOf badClass runClassOf written found
 opened = 0

@@ -11,6 +11,9 @@ pub mod Commands
 pub mod Answer
 pub mod Chain
 pub mod Host
+pub mod Class
+pub mod OneByOne
+pub mod Written
 pub mod Decoded
 pub mod Safe
 pub mod Exactly

@@ -10,7 +10,7 @@ use native.Mathlib.Numerals.{add-one}
 use native.Mathlib.Omega.{arith}
 use lib.Dec.{ltb}
 use lib.ListN.{length, getD, set, take, drop, length-append, length-take, length-drop, length-replicate, replicate-append-replicate, take-append-drop, drop-of-length-le, List·getD-append}
-use lib.Seq.{take-nil, ext-getD, set-append-seam, length-take-le, take-length, take-all, drop-length, drop-drop, drop-cons, drop-append-le, take-add, take-at, drop-at, getD-take, getD-drop, getD-append-add}
+use lib.Seq.{take-nil, ext-getD, set-append-seam, length-take-le, take-length, take-all, drop-length, drop-drop, drop-cons, drop-append-le, drop-append-add, take-add, take-at, drop-at, getD-take, getD-drop, getD-append-add}
 use borrow.Author.Fill.{fill-more}
 use borrow.Author.Tests.{ltb-true, ltb-false}
 use borrow.Rule.Slice.PartMut.{midOf, putMid, mid-len, post-is}
@@ -86,6 +86,19 @@ pub get-part : (l : List ℕ) (at n i : ℕ) → i < n → getD (part l at n) i 
 unfolding part
 get-part l at n i h = getD-take n (drop at l) i 0 h ∙ getD-drop at l i 0
 
+-- a part of what lies from a place on
+pub part-drop : (l : List ℕ) (from at n : ℕ) → part (drop from l) at n ≡ part l (from + at) n
+unfolding part
+part-drop l from at n = rw (drop-drop at from l)
+
+-- a byte, and a part, of what stands behind another list
+pub get-behind : (front l : List ℕ) (n at : ℕ) → length front ≡ n → getD (front ++ l) (n + at) 0 ≡ getD l at 0
+get-behind front l n at e = rw (← e) (getD-append-add front l at 0)
+
+pub part-behind : (front l : List ℕ) (n at k : ℕ) → length front ≡ n → part (front ++ l) (n + at) k ≡ part l at k
+unfolding part
+part-behind front l n at k e = rw (← e, drop-append-add front l at)
+
 -- a part that was put between two others
 pub part-between : (p q r : List ℕ) (at n : ℕ) → length p ≡ at → length q ≡ n → part (p ++ (q ++ r)) at n ≡ q
 unfolding part
@@ -148,10 +161,19 @@ pub part-cons : (l : List ℕ) (at n : ℕ) → at < length l → part l at (suc
 unfolding part
 part-cons l at n h = rw (drop-cons l at 0 h, add-one)
 
+-- where the bytes that were put end
+put-end : (l : List ℕ) (at : ℕ) (bytes : List ℕ) (n : ℕ) → length bytes ≡ n → at + n ≤ length l → length (take at l ++ bytes) ≡ at + n
+put-end l at bytes n e h = length-append (take at l) bytes ∙ rw (length-take-le at l (omega arith), e)
+
 -- what stands before the bytes that were put, and the bytes
 pub take-put : (l : List ℕ) (at : ℕ) (bytes : List ℕ) (n : ℕ) → length bytes ≡ n → at + n ≤ length l → take (at + n) (put l at bytes) ≡ take at l ++ bytes
 unfolding put
-take-put l at bytes n e h = take-at (take at l ++ bytes) _ (at + n) (length-append (take at l) bytes ∙ rw (length-take-le at l (omega arith), e))
+take-put l at bytes n e h = take-at (take at l ++ bytes) _ (at + n) (put-end l at bytes n e h)
+
+-- what stands behind them
+pub drop-put : (l : List ℕ) (at : ℕ) (bytes : List ℕ) (n : ℕ) → length bytes ≡ n → at + n ≤ length l → drop (at + n) (put l at bytes) ≡ drop (at + n) l
+unfolding put
+drop-put l at bytes n e h = rw e (drop-at (take at l ++ bytes) _ (at + n) (put-end l at bytes n e h))
 
 -- put at the front
 
@@ -203,6 +225,12 @@ pub rest-lent : (l : List ℕ) (at : ℕ) → midOf at (length l - at) l ≡ dro
 rest-lent l at =
     let h : length (drop at l) ≤ length l - at = simp length-drop (omega arith) in
     take-all (length l - at) (drop at l) h
+
+-- what was lent as `&mut l[at..]`, and is back
+pub rest-back : (l back : List ℕ) (at : ℕ) → at ≤ length l → drop at (putMid at (length l - at) l back) ≡ back
+rest-back l back at h =
+    let short : length (drop at l) ≤ length l - at = simp length-drop (omega arith) in
+    drop-at (take at l) _ at (length-take-le at l h) ∙ ap (λ (k : List ℕ). back ++ k) (drop-of-length-le (drop at l) short) ∙ append-nil back
 
 -- the callee filled the part
 pub put-lent-filled : (l bytes back : List ℕ) (at n : ℕ) → back ≡ pad (length (midOf at (at + n - at) l)) bytes → at + n ≤ length l
