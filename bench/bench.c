@@ -14,15 +14,20 @@
 #define EXTENT_AT 0u    // places in storage
 #define LOCATE_AT 16u
 #define DATA_AT 24u
+#define FIRST_BLOCK 3u  // of every LOCATE
 #define CLASS 100u      // chains of a class, of three commands each
+#define ALTERNATES 64u  // on the lines that have them
+#define MAP_AT 34u      // in the record
 
-typedef uint32_t run_function(const uint8_t *, size_t, uint8_t *, size_t, uint8_t *, size_t, uint8_t *, size_t, uint8_t *, size_t);
+typedef uint32_t run_function(const uint8_t *, size_t, uint8_t *, size_t, uint8_t *, size_t, uint32_t, uint8_t *, size_t, uint8_t *,
+                              size_t);
 
 struct machine {
     uint8_t chain[CLASS * (2 + 3 * 8)]; // or, each after its length, those of a class
-    uint8_t storage[DATA_AT + 127 * BLOCK], store[DEVICE_BLOCKS * BLOCK], record[34];
+    uint8_t storage[DATA_AT + 127 * BLOCK], store[(DEVICE_BLOCKS + ALTERNATES) * BLOCK], record[MAP_AT + 4 * ALTERNATES];
     uint8_t answers[CLASS * LOUGHRELLA_RESULT_SIZE(3 * 8)]; // or a class's results
     size_t chain_len;
+    uint32_t alternates;
 };
 
 static void word(struct machine *m, unsigned command, unsigned address, unsigned flags, unsigned count)
@@ -48,7 +53,7 @@ static void extent(struct machine *m)
 
 static void locate(struct machine *m, unsigned operation, unsigned blocks)
 {
-    const uint8_t p[8] = {(uint8_t)operation, 0, 0, (uint8_t)blocks, 0, 0, 0, 3};
+    const uint8_t p[8] = {(uint8_t)operation, 0, 0, (uint8_t)blocks, 0, 0, 0, FIRST_BLOCK};
     memcpy(m->storage + LOCATE_AT, p, 8);
     word(m, 0x43, LOCATE_AT, 0x40, 8);
 }
@@ -67,6 +72,18 @@ static void write_1(struct machine *m) { transfer(m, 0x41, 1, BLOCK); }
 static void write_127(struct machine *m) { transfer(m, 0x41, 127, 127 * BLOCK); }
 static void write_1_short(struct machine *m) { transfer(m, 0x41, 1, BLOCK / 2); }
 static void write_127_short(struct machine *m) { transfer(m, 0x41, 127, 127 * BLOCK / 2); }
+
+// READ of 127 blocks of a device with alternates. So many of them are used, by every other block of those that are read.
+static void read_127_alternates(struct machine *m, unsigned used)
+{
+    read_127(m);
+    m->alternates = ALTERNATES;
+    for (unsigned i = 0; i < used; i++) m->record[MAP_AT + 4 * i + 3] = (uint8_t)(FIRST_BLOCK + 2 * i + 1); // its number plus 1
+}
+
+static void read_127_none(struct machine *m) { read_127_alternates(m, 0); }
+static void read_127_half(struct machine *m) { read_127_alternates(m, ALTERNATES / 2); }
+static void read_127_all(struct machine *m) { read_127_alternates(m, ALTERNATES); }
 
 static void read_15_pairs(struct machine *m)
 {
@@ -121,6 +138,8 @@ static const struct { const char *name; void (*make)(struct machine *); uint32_t
     {"read-16-pieces", read_16_pieces, 18},
     {"refused-cause-1", refused_call, 256}, {"refused-first-command", refused_first, 1}, {"no-operation-32", no_operations, 32},
     {"class-100-read-1", class_read_1, 0}, // the one whose function is that of a class
+    {"read-127-alternates-none", read_127_none, 3}, {"read-127-alternates-half", read_127_half, 3},
+    {"read-127-alternates-all", read_127_all, 3},
 };
 #define WORKLOADS (sizeof workloads / sizeof *workloads)
 
@@ -133,9 +152,10 @@ static int run(size_t which, unsigned long times, const struct program *program)
     second_record(m.record, sizeof m.record, 1, 0);
     workloads[which].make(&m);
     uint32_t wrong = 0;
+    size_t store_len = BLOCK * (size_t)(DEVICE_BLOCKS + m.alternates);
     for (unsigned long i = 0; i < times; i++)
-        wrong |= function(m.chain, m.chain_len, m.storage, sizeof m.storage, m.store, sizeof m.store, m.record, sizeof m.record,
-                          m.answers, sizeof m.answers) ^ workloads[which].result;
+        wrong |= function(m.chain, m.chain_len, m.storage, sizeof m.storage, m.store, store_len, m.alternates, m.record,
+                          sizeof m.record, m.answers, sizeof m.answers) ^ workloads[which].result;
     if (wrong != 0) fprintf(stderr, "%s: wrong result\n", workloads[which].name);
     return wrong == 0 ? 0 : 1;
 }

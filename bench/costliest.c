@@ -16,10 +16,11 @@
 #define DATA_AT 16u // behind the parameters of two LOCATEs
 #define BOOT_AT (DATA_AT + MOST)
 
-typedef uint32_t run_function(const uint8_t *, size_t, uint8_t *, size_t, uint8_t *, size_t, uint8_t *, size_t, uint8_t *, size_t);
+typedef uint32_t run_function(const uint8_t *, size_t, uint8_t *, size_t, uint8_t *, size_t, uint32_t, uint8_t *, size_t, uint8_t *,
+                              size_t);
 
 struct machine {
-    uint8_t chain[256], storage[BOOT_AT + 512], record[34], answers[256];
+    uint8_t chain[256], storage[BOOT_AT + 512], record[LOUGHRELLA_RECORD_SIZE], answers[256];
     uint8_t *store;
     size_t chain_len, store_len;
 };
@@ -58,7 +59,7 @@ static double call(struct machine *m, run_function *function)
 {
     struct timespec from, to;
     clock_gettime(CLOCK_MONOTONIC, &from);
-    uint32_t result = function(m->chain, m->chain_len, m->storage, sizeof m->storage, m->store, m->store_len, m->record,
+    uint32_t result = function(m->chain, m->chain_len, m->storage, sizeof m->storage, m->store, m->store_len, 0, m->record,
                                sizeof m->record, m->answers, sizeof m->answers);
     clock_gettime(CLOCK_MONOTONIC, &to);
     if (result != 32) {

@@ -12,12 +12,22 @@
 #define MAX_BLOCKS 131072u
 #define MAX_STORAGE 16777216u
 
+// Alternates (02, ask 4), and what an entry of the map is where it is not the number of a primary block plus 1.
+#define MAX_ALTERNATES 64u
+#define ENTRY_SIZE 4u
+#define MAP_SIZE (MAX_ALTERNATES * ENTRY_SIZE)
+#define UNUSED 0u
+#define DEFECTIVE 0xFFFFFFFFu
+
 // A class (02, ask 3): what stands before each chain, and before the answers in its result.
 #define LENGTH_SIZE 2u
 #define HEAD_SIZE 4u
 
-// The unit record's places. The sense comes first.
-enum { SENSE_SIZE = 24, BLOCKS_READ = 24, BLOCKS_CHECKED = 27, MOVEMENTS = 30, READY = 32, READ_ONLY = 33, RECORD_SIZE = 34 };
+// The unit record's places. The sense comes first, the map last.
+enum {
+    SENSE_SIZE = 24, BLOCKS_READ = 24, BLOCKS_CHECKED = 27, MOVEMENTS = 30, READY = 32, READ_ONLY = 33, MAP = 34,
+    RECORD_SIZE = MAP + MAP_SIZE
+};
 
 enum { // Command bytes
     READ_IPL = 0x02, NO_OPERATION = 0x03, SENSE = 0x04, WRITE = 0x41, READ = 0x42, LOCATE = 0x43,
@@ -67,6 +77,25 @@ struct command {
     struct piece piece[MAX_CCWS];
 };
 
+// A mapped block, and the block of the store where its alternate is.
+struct mapped {
+    uint32_t block, place;
+};
+
+#define NO_BLOCK 0xFFFFFFFFu // ends a list of mapped blocks, and is above all of them
+
+// Bytes of the store, or of main storage.
+struct part {
+    uint8_t *at;
+    uint32_t size;
+};
+
+// Blocks of the device from one on, and the first of the mapped ones that is not before it.
+struct blocks {
+    uint32_t first, count;
+    const struct mapped *next;
+};
+
 // What an accepted command can move, and the blocks it began.
 struct work {
     uint32_t can_move, blocks;
@@ -76,7 +105,8 @@ struct work {
 struct run {
     uint8_t *storage, *store, *record, *answer; // the answer is the next to be written
     size_t storage_len;
-    uint32_t device_blocks;
+    uint32_t primaries, alternates, mapped_count;
+    struct mapped *mapped;                    // ascending; as the map has them
     uint32_t offset, first, last;             // the extent, if one stands
     uint32_t operation, block, block_count;   // the LOCATE, if one was accepted
     uint8_t mask, before;                     // before is 0 at the chain's first command
@@ -99,36 +129,40 @@ static void put24(uint8_t *p, uint32_t value)
     put16(p + 1, value);
 }
 
+static void put32(uint8_t *p, uint32_t value)
+{
+    p[0] = (uint8_t)(value >> 24);
+    put24(p + 1, value);
+}
+
 static uint32_t smaller(uint32_t a, uint32_t b) { return a < b ? a : b; }
 
 // Adds to a count of the log; a full count stays at its largest value.
 static void count24(uint8_t *field, uint32_t amount) { put24(field, smaller(get24(field) + amount, 0xFFFFFF)); }
 static void count16(uint8_t *field, uint32_t amount) { put16(field, smaller(get16(field) + amount, 0xFFFF)); }
 
-// Scatters as much of the data as the pieces take, in order: where they overlap the later bytes stay. Returns the bytes moved.
-static uint32_t send(const struct run *r, const struct command *c, const uint8_t *data, uint32_t size)
+// Scatters as much of the data as the pieces take, in order: where they overlap the later bytes stay.
+static void send(const struct run *r, const struct command *c, const uint8_t *data, uint32_t size)
 {
-    uint32_t moved = smaller(c->sum, size), left = moved;
+    uint32_t left = smaller(c->sum, size);
     for (const struct piece *p = c->piece; left > 0; p++) {
         uint32_t part = smaller(p->count, left);
         memcpy(r->storage + p->address, data, part);
         data += part;
         left -= part;
     }
-    return moved;
 }
 
-// Gathers as much from the pieces as they have and the size takes. Returns the bytes moved.
-static uint32_t gather(const struct run *r, const struct command *c, uint8_t *to, uint32_t size)
+// Gathers as much from the pieces as they have and the size takes.
+static void gather(const struct run *r, const struct command *c, uint8_t *to, uint32_t size)
 {
-    uint32_t moved = smaller(c->sum, size), left = moved;
+    uint32_t left = smaller(c->sum, size);
     for (const struct piece *p = c->piece; left > 0; p++) {
         uint32_t part = smaller(p->count, left);
         memcpy(to, r->storage + p->address, part);
         to += part;
         left -= part;
     }
-    return moved;
 }
 
 // A command's parameters, of which the sum has enough: where they stand if the first piece has them all, else gathered.
@@ -137,6 +171,86 @@ static const uint8_t *parameters(const struct run *r, const struct command *c, u
     if (c->piece[0].count >= size) return r->storage + c->piece[0].address;
     gather(r, c, room, size);
     return room;
+}
+
+// The first mapped block that is not before this one.
+static struct mapped *mapped_from(const struct run *r, uint32_t block)
+{
+    struct mapped *m = r->mapped;
+    while (m->block < block) m++;
+    return m;
+}
+
+static uint8_t *block_at(const struct run *r, uint32_t place) { return r->store + (size_t)BLOCK * place; }
+
+// Takes from the front the blocks that lie in a row in the store: all up to the next mapped one; or that one, and those behind it
+// whose alternates follow its own.
+static struct part take_row(const struct run *r, struct blocks *b)
+{
+    uint32_t place = b->first, count = smaller(b->next->block - b->first, b->count);
+    if (count == 0) {
+        place = b->next->place;
+        do {
+            count++;
+            b->next++;
+        } while (count < b->count && b->next->block == b->first + count && b->next->place == place + count);
+    }
+    b->first += count;
+    b->count -= count;
+    return (struct part){block_at(r, place), BLOCK * count};
+}
+
+// Moves so many bytes between the pieces and the blocks, row by row, in order as send and gather do. What a WRITE's bytes do not
+// fill gets zeros.
+static void move_rows(const struct run *r, const struct command *c, struct blocks b, uint32_t left)
+{
+    const struct piece *p = c->piece;
+    struct part area = {r->storage, 0};
+    while (b.count > 0) {
+        struct part row = take_row(r, &b);
+        while (row.size > 0 && left > 0) {
+            if (area.size == 0) {
+                area = (struct part){r->storage + p->address, p->count};
+                p++;
+            }
+            uint32_t part = smaller(smaller(row.size, area.size), left);
+            if (c->code == WRITE) memcpy(row.at, area.at, part);
+            else memcpy(area.at, row.at, part);
+            row = (struct part){row.at + part, row.size - part};
+            area = (struct part){area.at + part, area.size - part};
+            left -= part;
+        }
+        if (c->code == WRITE) memset(row.at, 0, row.size);
+    }
+}
+
+// Adds a block to the mapped ones. Tells whether it was not among them.
+static bool add_mapped(struct run *r, uint32_t block, uint32_t alternate)
+{
+    struct mapped *m = r->mapped + r->mapped_count++;
+    m[1].block = NO_BLOCK;
+    for (; m > r->mapped && m[-1].block > block; m--) *m = m[-1];
+    *m = (struct mapped){block, r->primaries + alternate};
+    return m == r->mapped || m[-1].block < block;
+}
+
+// The block goes to the lowest unused alternate, and the one that it had is defective for good. No data moves. Tells whether one
+// was unused: else nothing changes.
+static bool format(struct run *r, uint32_t block)
+{
+    uint8_t *map = r->record + MAP;
+    uint32_t unused = 0;
+    while (unused < r->alternates && get32(map + ENTRY_SIZE * unused) != UNUSED) unused++;
+    if (unused == r->alternates) return false;
+    put32(map + ENTRY_SIZE * unused, block + 1);
+    struct mapped *m = mapped_from(r, block);
+    if (m->block == block) {
+        put32(map + ENTRY_SIZE * (m->place - r->primaries), DEFECTIVE);
+        m->place = r->primaries + unused;
+    } else {
+        add_mapped(r, block, unused);
+    }
+    return true;
 }
 
 static uint32_t define_extent(struct run *r, const struct command *c, struct work *w)
@@ -150,7 +264,7 @@ static uint32_t define_extent(struct run *r, const struct command *c, struct wor
     uint32_t size = get16(p + 2), offset = get32(p + 4), first = get32(p + 8), last = get32(p + 12);
     if (size != 0 && size != BLOCK) return 24;
     if (first > last) return 25;
-    if ((uint64_t)offset + (last - first) >= r->device_blocks) return 26;
+    if ((uint64_t)offset + (last - first) >= r->primaries) return 26;
     r->extent = true;
     r->mask = p[0];
     r->offset = offset;
@@ -177,22 +291,35 @@ static uint32_t locate(struct run *r, const struct command *c, struct work *w)
     if (displacement < r->first || (uint64_t)displacement + range - 1 > r->last) return 36;
     if ((operation & allowed[r->mask >> 6]) == 0) return 37;
     if (r->record[READ_ONLY] != 0 && (operation & (WRITES | FORMAT)) != 0) return 38;
-    if (operation == FORMAT) return NO_ALTERNATE;
+    uint32_t block = displacement - r->first + r->offset;
+    if (operation == FORMAT && !format(r, block)) return NO_ALTERNATE;
     r->operation = operation;
-    r->block = displacement - r->first + r->offset;
+    r->block = block;
     r->block_count = blocks;
     count16(r->record + MOVEMENTS, 1);
     w->can_move = 8;
     return 0;
 }
 
+// So many blocks from the LOCATE's first on.
+static struct blocks located(const struct run *r, uint32_t count)
+{
+    return (struct blocks){r->block, count, mapped_from(r, r->block)};
+}
+
+// Whether none of them is mapped.
+static bool lie_in_a_row(const struct blocks *b) { return b->next->block - b->first >= b->count; }
+
 static uint32_t read_data(struct run *r, const struct command *c, struct work *w)
 {
     if (r->before != LOCATE) return 41;
     if ((r->operation & READS) == 0) return 42;
     w->can_move = BLOCK * r->block_count;
-    uint32_t moved = send(r, c, r->store + (size_t)BLOCK * r->block, w->can_move);
+    uint32_t moved = smaller(c->sum, w->can_move);
     w->blocks = (moved + BLOCK - 1) / BLOCK;
+    struct blocks blocks = located(r, w->blocks);
+    if (lie_in_a_row(&blocks)) send(r, c, block_at(r, r->block), moved);
+    else move_rows(r, c, blocks, moved);
     count24(r->record + BLOCKS_READ, w->blocks);
     return 0;
 }
@@ -203,10 +330,16 @@ static uint32_t write_data(struct run *r, const struct command *c, struct work *
     if (r->before != LOCATE) return 41;
     if ((r->operation & WRITES) == 0) return 42;
     w->can_move = BLOCK * r->block_count;
-    uint8_t *target = r->store + (size_t)BLOCK * r->block;
-    uint32_t moved = gather(r, c, target, w->can_move);
-    memset(target + moved, 0, w->can_move - moved);
+    uint32_t moved = smaller(c->sum, w->can_move);
     w->blocks = (moved + BLOCK - 1) / BLOCK;
+    struct blocks blocks = located(r, r->block_count);
+    if (lie_in_a_row(&blocks)) {
+        uint8_t *target = block_at(r, r->block);
+        gather(r, c, target, moved);
+        memset(target + moved, 0, w->can_move - moved);
+    } else {
+        move_rows(r, c, blocks, moved);
+    }
     if (r->operation == WRITE_CHECK) count24(r->record + BLOCKS_CHECKED, r->block_count);
     return 0;
 }
@@ -218,8 +351,8 @@ static uint32_t read_ipl(struct run *r, const struct command *c, struct work *w)
     r->mask = 0;
     r->offset = 0;
     r->first = 0;
-    r->last = r->device_blocks - 1;
-    send(r, c, r->store, BLOCK);
+    r->last = r->primaries - 1;
+    send(r, c, block_at(r, r->mapped->block == 0 ? r->mapped->place : 0), BLOCK);
     count24(r->record + BLOCKS_READ, 1);
     count16(r->record + MOVEMENTS, 1);
     w->can_move = BLOCK;
@@ -373,10 +506,11 @@ static bool chain_ends(const uint8_t *chain, size_t chain_len)
 }
 
 static uint32_t call_cause(const uint8_t *chain, size_t chain_len, size_t storage_len, size_t store_len,
-                           size_t record_len, size_t answers_len)
+                           uint32_t alternates, size_t record_len, size_t answers_len)
 {
     if (chain_len == 0 || chain_len > MAX_CHAIN || chain_len % CCW_SIZE != 0) return 1;
-    if (store_len == 0 || store_len % BLOCK != 0 || store_len / BLOCK > MAX_BLOCKS) return 2;
+    if (store_len % BLOCK != 0 || store_len / BLOCK > MAX_BLOCKS) return 2;
+    if (alternates > MAX_ALTERNATES || alternates >= store_len / BLOCK) return 2; // there is a primary
     if (storage_len > MAX_STORAGE) return 3;
     if (answers_len < chain_len) return 4;
     if (!chain_ends(chain, chain_len)) return 5;
@@ -384,14 +518,39 @@ static uint32_t call_cause(const uint8_t *chain, size_t chain_len, size_t storag
     return 0;
 }
 
+static bool is_empty(const uint8_t *map)
+{
+    uint8_t any = 0;
+    for (size_t i = 0; i < MAP_SIZE; i++) any |= map[i];
+    return any == 0;
+}
+
+// Lists the mapped blocks. Tells whether the map is right: else cause 8.
+static bool list_mapped(struct run *r)
+{
+    const uint8_t *map = r->record + MAP;
+    r->mapped[0].block = NO_BLOCK;
+    if (is_empty(map)) return true;
+    for (uint32_t i = 0; i < MAX_ALTERNATES; i++) {
+        uint32_t entry = get32(map + ENTRY_SIZE * i);
+        if (entry == UNUSED) continue;
+        if (i >= r->alternates) return false;
+        if (entry == DEFECTIVE) continue;
+        if (entry > r->primaries || !add_mapped(r, entry - 1, i)) return false;
+    }
+    return true;
+}
+
 uint32_t second_run(const uint8_t *chain, size_t chain_len, uint8_t *storage, size_t storage_len,
-                    uint8_t *store, size_t store_len, uint8_t *record, size_t record_len,
+                    uint8_t *store, size_t store_len, uint32_t alternates, uint8_t *record, size_t record_len,
                     uint8_t *answers, size_t answers_len)
 {
-    uint32_t cause = call_cause(chain, chain_len, storage_len, store_len, record_len, answers_len);
+    uint32_t cause = call_cause(chain, chain_len, storage_len, store_len, alternates, record_len, answers_len);
     if (cause != 0) return 256 * cause;
+    struct mapped mapped[MAX_ALTERNATES + 1];
     struct run r = {.storage = storage, .store = store, .record = record, .answer = answers, .storage_len = storage_len,
-                    .device_blocks = (uint32_t)(store_len / BLOCK)};
+                    .mapped = mapped, .primaries = (uint32_t)(store_len / BLOCK) - alternates, .alternates = alternates};
+    if (!list_mapped(&r)) return 256 * 8;
     struct command c;
     for (const uint8_t *ccw = chain; run_command(&r, &c, ccw); ccw = c.next) r.before = c.code;
     return (uint32_t)(r.answer - answers) / ANSWER_SIZE;
@@ -416,14 +575,14 @@ static bool class_fits(const uint8_t *chains, size_t chains_len, size_t results_
 }
 
 uint32_t second_run_class(const uint8_t *chains, size_t chains_len, uint8_t *storage, size_t storage_len,
-                          uint8_t *store, size_t store_len, uint8_t *record, size_t record_len,
+                          uint8_t *store, size_t store_len, uint32_t alternates, uint8_t *record, size_t record_len,
                           uint8_t *results, size_t results_len)
 {
     if (!class_fits(chains, chains_len, results_len)) return 256 * 7;
     while (chains_len > 0) {
         size_t length = get16(chains), room = answer_room(length);
-        uint32_t result = second_run(chains + LENGTH_SIZE, length, storage, storage_len, store, store_len, record, record_len,
-                                     results + HEAD_SIZE, room);
+        uint32_t result = second_run(chains + LENGTH_SIZE, length, storage, storage_len, store, store_len, alternates, record,
+                                     record_len, results + HEAD_SIZE, room);
         put16(results, result / 256);
         put16(results + 2, result % 256);
         chains += LENGTH_SIZE + length;

@@ -6,7 +6,7 @@
 #include <string.h>
 
 static const uint8_t listed[9] = {0x03, 0x63, 0x43, 0x42, 0x41, 0x02, 0x04, 0xE4, 0xA4};
-static const size_t plain_length[BUFFERS] = {24, 40, 1024, 34, 24};
+static const size_t plain_length[BUFFERS] = {24, 40, 1024, RECORD_SIZE, 24};
 
 static bool same_as_second(const struct buffers *library, const struct buffers *twin)
 {
@@ -20,21 +20,30 @@ static bool same_as_second(const struct buffers *library, const struct buffers *
     return false;
 }
 
+// Every byte random, but for the map, which is right: else every call would be refused by 8.
 static void fill_random(struct random *r, const struct buffers *b)
 {
     for (int i = 0; i < BUFFERS; i++) random_fill(r, b->at[i], b->length[i]);
+    if (b->length[RECORD] != RECORD_SIZE) return;
+    struct device d = {.primaries = (uint32_t)(b->length[STORE] / BLOCK) - b->alternates, .alternates = b->alternates};
+    generate_map(r, &d);
+    memcpy(b->at[RECORD] + MAP_AT, d.map, MAP_SIZE);
 }
 
-// Every byte random, lengths random too. One chain in two has flags and counts that let it go further.
+// Every byte random, lengths random too, and of one input in eight the map. One chain in two has flags and counts that let it go
+// further.
 static bool random_bytes(struct random *r, bool at_end)
 {
     for (int run = 0; run < 20000; run++) {
         struct buffers library, twin;
-        size_t length[BUFFERS] = {8 * (size_t)random_below(r, 34), random_below(r, 600), BLOCK * (size_t)random_below(r, 5), 34, 0};
+        size_t length[BUFFERS] = {8 * (size_t)random_below(r, 34), random_below(r, 600), BLOCK * (size_t)random_below(r, 5), RECORD_SIZE, 0};
+        uint32_t blocks = (uint32_t)(length[STORE] / BLOCK);
         length[ANSWERS] = length[CHAIN] + random_below(r, 3);
         if (random_below(r, 4) == 0) length[random_below(r, BUFFERS)] = random_below(r, 1100);
         buffers_place(&library, &twin, length, at_end);
+        if (blocks > 0) library.alternates = twin.alternates = random_below(r, blocks);
         fill_random(r, &library);
+        if (run % 8 == 7 && length[RECORD] == RECORD_SIZE) random_fill(r, library.at[RECORD] + MAP_AT, MAP_SIZE);
         for (size_t i = 0; run % 2 == 0 && i + 8 <= length[CHAIN]; i += 8) {
             uint8_t *w = library.at[CHAIN] + i;
             w[1] = 0;
@@ -67,6 +76,8 @@ static bool lengths_just_off(struct random *r, bool at_end)
     return true;
 }
 
+#define READY_EMPTY "32*00 " READY_RW " 256*00"
+
 // NULL with length 0 for each set of buffers; the cause is the lowest that the missing ones give, storage gives none.
 static bool null_buffers(void)
 {
@@ -81,7 +92,7 @@ static bool null_buffers(void)
         buffers_copy(&library, &twin);
         bool chain = (missing & 1) != 0, store = (missing & 4) != 0, record = (missing & 8) != 0, answers = (missing & 16) != 0;
         uint32_t expected = chain ? 0x100 : store ? 0x200 : answers ? 0x400 : record ? 0x600 : 3;
-        if (!record) twin.at[RECORD][32] = library.at[RECORD][32] = 1;
+        if (!record) text_bytes(library.at[RECORD], RECORD_SIZE, READY_EMPTY), text_bytes(twin.at[RECORD], RECORD_SIZE, READY_EMPTY);
         if (expected == 3) text_bytes(twin.at[ANSWERS], 24, NOP_DONE NOP_DONE NOP_DONE);
         for (int i = 0; i < BUFFERS; i++)
             if ((missing >> i & 1) != 0) library.at[i] = twin.at[i] = NULL;
@@ -97,11 +108,11 @@ static bool null_storage(void)
     static const uint8_t commands[] = {0x63, 0x43, 0x42, 0x41, 0x02, 0x04, 0xE4, 0xA4, 0xFF};
     for (size_t i = 0; i < sizeof commands; i++) {
         struct buffers library, twin;
-        size_t length[BUFFERS] = {8, 0, 512, 34, 8};
+        size_t length[BUFFERS] = {8, 0, 512, RECORD_SIZE, 8};
         buffers_place(&library, &twin, length, true);
         text_bytes(library.at[CHAIN], 8, "00 000000 20 00 0001");
         library.at[CHAIN][0] = commands[i];
-        text_bytes(library.at[RECORD], RECORD_SIZE, PENDING_RECORD);
+        text_bytes(library.at[RECORD], RECORD_SIZE, PENDING_RECORD " 256*00");
         buffers_copy(&library, &twin);
         text_bytes(twin.at[ANSWERS], 8, PROGRAM("0001", "0C"));
         library.at[STORAGE] = twin.at[STORAGE] = NULL;
@@ -127,7 +138,7 @@ static bool whole_area(struct random *r, uint8_t command, uint32_t count, uint32
 {
     struct buffers library, twin;
     uint8_t chain[16];
-    size_t length[BUFFERS] = {8 * put_whole(chain, command, count, part), count, 1024, 34, 0};
+    size_t length[BUFFERS] = {8 * put_whole(chain, command, count, part), count, 1024, RECORD_SIZE, 0};
     length[ANSWERS] = length[CHAIN];
     buffers_place(&library, &twin, length, at_end);
     fill_random(r, &library);
@@ -149,18 +160,20 @@ static bool whole_areas(struct random *r, bool at_end)
     return whole_area(r, commands[0], 65535, 0, at_end) && whole_area(r, commands[0], 65535, 65534, at_end);
 }
 
-// READ and WRITE of each block of a store that lies against the guard, into and from the whole of storage.
+// READ and WRITE of each block of a store that lies against the guard, into and from the whole of storage. Up to two of the
+// store's blocks, which are its last, are alternates.
 static bool whole_transfer(struct random *r, uint8_t operation, uint32_t block, uint32_t blocks, uint32_t count, uint32_t part, bool at_end)
 {
     struct buffers library, twin;
     uint8_t chain[32];
     text_bytes(chain, 16, "02 000000 60 00 0001 43 000000 60 00 0008");
     size_t words = 2 + put_whole(chain + 16, operation == 6 ? 0x42 : 0x41, count, part);
-    size_t length[BUFFERS] = {8 * words, count, 3 * BLOCK, 34, 8 * words};
+    size_t length[BUFFERS] = {8 * words, count, 3 * BLOCK, RECORD_SIZE, 8 * words};
     buffers_place(&library, &twin, length, at_end);
+    library.alternates = twin.alternates = random_below(r, 3);
     fill_random(r, &library);
     memcpy(library.at[CHAIN], chain, length[CHAIN]);
-    library.at[STORE][0] = operation; // the READ IPL brings the operation byte
+    for (size_t i = 0; i < 3; i++) library.at[STORE][i * BLOCK] = operation; // the READ IPL brings the operation byte
     text_bytes(library.at[STORAGE], 8, "00000000 00000000");
     library.at[STORAGE][3] = (uint8_t)blocks;
     library.at[STORAGE][7] = (uint8_t)block;

@@ -66,6 +66,7 @@ void buffers_open(void)
 void buffers_place(struct buffers *library, struct buffers *twin, const size_t length[BUFFERS], bool at_end)
 {
     struct buffers *sides[2] = {library, twin};
+    library->alternates = twin->alternates = 0;
     for (int side = 0; side < 2; side++)
         for (int i = 0; i < BUFFERS; i++) {
             const struct area *a = &areas[side][i];
@@ -114,12 +115,13 @@ bool buffers_equal(const struct buffers *library, const struct buffers *twin)
 
 // What a chain and a class are run by: both have the same arguments.
 typedef uint32_t run_function(const uint8_t *chain, size_t chain_len, uint8_t *storage, size_t storage_len, uint8_t *store,
-                              size_t store_len, uint8_t *record, size_t record_len, uint8_t *answers, size_t answers_len);
+                              size_t store_len, uint32_t alternates, uint8_t *record, size_t record_len, uint8_t *answers,
+                              size_t answers_len);
 
 static uint32_t call(run_function *run, const struct buffers *b)
 {
     return run(b->at[CHAIN], b->length[CHAIN], b->at[STORAGE], b->length[STORAGE], b->at[STORE], b->length[STORE],
-               b->at[RECORD], b->length[RECORD], b->at[ANSWERS], b->length[ANSWERS]);
+               b->alternates, b->at[RECORD], b->length[RECORD], b->at[ANSWERS], b->length[ANSWERS]);
 }
 
 static uint32_t call_guarded(run_function *run, const struct buffers *b)
@@ -169,6 +171,13 @@ int call_next_result(struct loughrella_walk *at)
     return result;
 }
 
+uint32_t get32(const uint8_t *from) { return (uint32_t)from[0] << 24 | (uint32_t)from[1] << 16 | (uint32_t)from[2] << 8 | from[3]; }
+
+void put32(uint8_t *to, uint32_t value)
+{
+    for (int i = 0; i < 4; i++) to[i] = (uint8_t)(value >> (24 - 8 * i));
+}
+
 static void print_hex(const char *name, const uint8_t *bytes, size_t length)
 {
     printf("  %s", name);
@@ -179,6 +188,7 @@ static void print_hex(const char *name, const uint8_t *bytes, size_t length)
 void print_input(const struct buffers *b, const uint8_t record_before[RECORD_SIZE])
 {
     for (int i = 0; i < BUFFERS; i++) printf("  %s length %zu\n", buffer_names[i], b->length[i]);
+    printf("  alternates %lu\n", (unsigned long)b->alternates);
     print_hex("chain", b->at[CHAIN], b->length[CHAIN] < 2 * MAX_CHAIN ? b->length[CHAIN] : 2 * MAX_CHAIN);
     print_hex("record before", record_before, RECORD_SIZE);
 }

@@ -1,4 +1,5 @@
-// Causes 1 to 6 of the call, each on each side of its line; with them nothing at all may be written. And record set-up.
+// Causes 1 to 6 of the call, each on each side of its line; with them nothing at all may be written. And record set-up. What
+// alternates add, and cause 8, is in alternates.c.
 #include "test.h"
 #include "words.h"
 
@@ -13,50 +14,53 @@ struct call {
     size_t length[BUFFERS];
     uint8_t last; // flags of the last command word; all others have flag 40
     uint32_t result;
+    bool bad_map; // there are no alternates, and an entry
 };
 
 // Chains are NO-OPERATIONs. The last word has neither flag 80 nor flag 40 in a good call, which so reaches all n words.
 static const struct call calls[] = {
-    {"1, chain of 0 bytes", {0, STORAGE_OF, 4096, 34, 64}, 0x00, 0x100},
-    {"1, chain of 1 byte", {1, STORAGE_OF, 4096, 34, 64}, 0x00, 0x100},
-    {"1, chain of 7 bytes", {7, STORAGE_OF, 4096, 34, 64}, 0x00, 0x100},
-    {"1, chain of 8 bytes", {8, STORAGE_OF, 4096, 34, 64}, 0x00, 1},
-    {"1, chain of 9 bytes", {9, STORAGE_OF, 4096, 34, 64}, 0x00, 0x100},
-    {"1, chain of 12 bytes", {12, STORAGE_OF, 4096, 34, 64}, 0x00, 0x100},
-    {"1, chain of 255 bytes", {255, STORAGE_OF, 4096, 34, 512}, 0x00, 0x100},
-    {"1, chain of 256 bytes", {256, STORAGE_OF, 4096, 34, 256}, 0x00, 32},
-    {"1, chain of 257 bytes", {257, STORAGE_OF, 4096, 34, 512}, 0x00, 0x100},
-    {"1, chain of 264 bytes", {264, STORAGE_OF, 4096, 34, 512}, 0x00, 0x100},
-    {"1, chain of 512 bytes", {512, STORAGE_OF, 4096, 34, 512}, 0x00, 0x100},
-    {"2, store of 0 bytes", {8, STORAGE_OF, 0, 34, 8}, 0x00, 0x200},
-    {"2, store of 1 byte", {8, STORAGE_OF, 1, 34, 8}, 0x00, 0x200},
-    {"2, store of 511 bytes", {8, STORAGE_OF, 511, 34, 8}, 0x00, 0x200},
-    {"2, store of 512 bytes", {8, STORAGE_OF, 512, 34, 8}, 0x00, 1},
-    {"2, store of 513 bytes", {8, STORAGE_OF, 513, 34, 8}, 0x00, 0x200},
-    {"2, store of 131,072 blocks less a byte", {8, STORAGE_OF, STORE_MAX - 1, 34, 8}, 0x00, 0x200},
-    {"2, store of 131,072 blocks", {8, STORAGE_OF, STORE_MAX, 34, 8}, 0x00, 1},
-    {"2, store of 131,072 blocks and a byte", {8, STORAGE_OF, STORE_MAX + 1, 34, 8}, 0x00, 0x200},
-    {"2, store of 131,073 blocks", {8, STORAGE_OF, STORE_MAX + BLOCK, 34, 8}, 0x00, 0x200},
-    {"3, no storage", {8, 0, 4096, 34, 8}, 0x00, 1},
-    {"3, storage of 16,777,216 bytes", {8, MAX_STORAGE, 4096, 34, 8}, 0x00, 1},
-    {"3, storage of 16,777,217 bytes", {8, MAX_STORAGE + 1, 4096, 34, 8}, 0x00, 0x300},
-    {"4, no answers", {8, STORAGE_OF, 4096, 34, 0}, 0x00, 0x400},
-    {"4, answers of 7 for 8", {8, STORAGE_OF, 4096, 34, 7}, 0x00, 0x400},
-    {"4, answers of 8 for 8", {8, STORAGE_OF, 4096, 34, 8}, 0x00, 1},
-    {"4, answers of 255 for 256", {256, STORAGE_OF, 4096, 34, 255}, 0x00, 0x400},
-    {"4, answers of 257 for 256", {256, STORAGE_OF, 4096, 34, 257}, 0x00, 32},
-    {"5, one word with flag 40", {8, STORAGE_OF, 4096, 34, 8}, 0x40, 0x500},
-    {"5, 32 words with flag 40", {256, STORAGE_OF, 4096, 34, 256}, 0x40, 0x500},
-    {"5, one word with flag 80", {8, STORAGE_OF, 4096, 34, 8}, 0x80, 0x500},
-    {"5, the last word with flag 80", {16, STORAGE_OF, 4096, 34, 16}, 0x80, 0x500},
-    {"5, the last of 32 words with flag 80", {256, STORAGE_OF, 4096, 34, 256}, 0x80, 0x500},
-    {"5, the last word with flags 80 and 40", {16, STORAGE_OF, 4096, 34, 16}, 0xC0, 0x500},
-    {"5, the last word with flags 80, 40 and 20", {16, STORAGE_OF, 4096, 34, 16}, 0xE0, 0x500},
-    {"5, the last word with flag 20", {16, STORAGE_OF, 4096, 34, 16}, 0x20, 2},
-    {"6, no record", {8, STORAGE_OF, 4096, 0, 8}, 0x00, 0x600},
-    {"6, record of 33 bytes", {8, STORAGE_OF, 4096, 33, 8}, 0x00, 0x600},
-    {"6, record of 34 bytes", {8, STORAGE_OF, 4096, 34, 8}, 0x00, 1},
-    {"6, record of 35 bytes", {8, STORAGE_OF, 4096, 35, 8}, 0x00, 0x600},
+    {"1, chain of 0 bytes", {0, STORAGE_OF, 4096, 290, 64}, 0x00, 0x100, false},
+    {"1, chain of 1 byte", {1, STORAGE_OF, 4096, 290, 64}, 0x00, 0x100, false},
+    {"1, chain of 7 bytes", {7, STORAGE_OF, 4096, 290, 64}, 0x00, 0x100, false},
+    {"1, chain of 8 bytes", {8, STORAGE_OF, 4096, 290, 64}, 0x00, 1, false},
+    {"1, chain of 9 bytes", {9, STORAGE_OF, 4096, 290, 64}, 0x00, 0x100, false},
+    {"1, chain of 12 bytes", {12, STORAGE_OF, 4096, 290, 64}, 0x00, 0x100, false},
+    {"1, chain of 255 bytes", {255, STORAGE_OF, 4096, 290, 512}, 0x00, 0x100, false},
+    {"1, chain of 256 bytes", {256, STORAGE_OF, 4096, 290, 256}, 0x00, 32, false},
+    {"1, chain of 257 bytes", {257, STORAGE_OF, 4096, 290, 512}, 0x00, 0x100, false},
+    {"1, chain of 264 bytes", {264, STORAGE_OF, 4096, 290, 512}, 0x00, 0x100, false},
+    {"1, chain of 512 bytes", {512, STORAGE_OF, 4096, 290, 512}, 0x00, 0x100, false},
+    {"2, store of 0 bytes", {8, STORAGE_OF, 0, 290, 8}, 0x00, 0x200, false},
+    {"2, store of 1 byte", {8, STORAGE_OF, 1, 290, 8}, 0x00, 0x200, false},
+    {"2, store of 511 bytes", {8, STORAGE_OF, 511, 290, 8}, 0x00, 0x200, false},
+    {"2, store of 512 bytes", {8, STORAGE_OF, 512, 290, 8}, 0x00, 1, false},
+    {"2, store of 513 bytes", {8, STORAGE_OF, 513, 290, 8}, 0x00, 0x200, false},
+    {"2, store of 131,072 blocks less a byte", {8, STORAGE_OF, STORE_MAX - 1, 290, 8}, 0x00, 0x200, false},
+    {"2, store of 131,072 blocks", {8, STORAGE_OF, STORE_MAX, 290, 8}, 0x00, 1, false},
+    {"2, store of 131,072 blocks and a byte", {8, STORAGE_OF, STORE_MAX + 1, 290, 8}, 0x00, 0x200, false},
+    {"2, store of 131,073 blocks", {8, STORAGE_OF, STORE_MAX + BLOCK, 290, 8}, 0x00, 0x200, false},
+    {"3, no storage", {8, 0, 4096, 290, 8}, 0x00, 1, false},
+    {"3, storage of 16,777,216 bytes", {8, MAX_STORAGE, 4096, 290, 8}, 0x00, 1, false},
+    {"3, storage of 16,777,217 bytes", {8, MAX_STORAGE + 1, 4096, 290, 8}, 0x00, 0x300, false},
+    {"4, no answers", {8, STORAGE_OF, 4096, 290, 0}, 0x00, 0x400, false},
+    {"4, answers of 7 for 8", {8, STORAGE_OF, 4096, 290, 7}, 0x00, 0x400, false},
+    {"4, answers of 8 for 8", {8, STORAGE_OF, 4096, 290, 8}, 0x00, 1, false},
+    {"4, answers of 255 for 256", {256, STORAGE_OF, 4096, 290, 255}, 0x00, 0x400, false},
+    {"4, answers of 257 for 256", {256, STORAGE_OF, 4096, 290, 257}, 0x00, 32, false},
+    {"5, one word with flag 40", {8, STORAGE_OF, 4096, 290, 8}, 0x40, 0x500, false},
+    {"5, 32 words with flag 40", {256, STORAGE_OF, 4096, 290, 256}, 0x40, 0x500, false},
+    {"5, one word with flag 80", {8, STORAGE_OF, 4096, 290, 8}, 0x80, 0x500, false},
+    {"5, the last word with flag 80", {16, STORAGE_OF, 4096, 290, 16}, 0x80, 0x500, false},
+    {"5, the last of 32 words with flag 80", {256, STORAGE_OF, 4096, 290, 256}, 0x80, 0x500, false},
+    {"5, the last word with flags 80 and 40", {16, STORAGE_OF, 4096, 290, 16}, 0xC0, 0x500, false},
+    {"5, the last word with flags 80, 40 and 20", {16, STORAGE_OF, 4096, 290, 16}, 0xE0, 0x500, false},
+    {"5, the last word with flag 20", {16, STORAGE_OF, 4096, 290, 16}, 0x20, 2, false},
+    {"6, no record", {8, STORAGE_OF, 4096, 0, 8}, 0x00, 0x600, false},
+    {"6, record of 34 bytes, as it was", {8, STORAGE_OF, 4096, 34, 8}, 0x00, 0x600, false},
+    {"6, record of 256 bytes, the map alone", {8, STORAGE_OF, 4096, 256, 8}, 0x00, 0x600, false},
+    {"6, record of 289 bytes", {8, STORAGE_OF, 4096, 289, 8}, 0x00, 0x600, false},
+    {"6, record of 290 bytes", {8, STORAGE_OF, 4096, 290, 8}, 0x00, 1, false},
+    {"6, record of 291 bytes", {8, STORAGE_OF, 4096, 291, 8}, 0x00, 0x600, false},
 };
 
 static void fill_chain(const struct buffers *b, uint8_t last)
@@ -67,12 +71,13 @@ static void fill_chain(const struct buffers *b, uint8_t last)
     if (length >= 8) b->at[CHAIN][(length - 1) / 8 * 8 + 4 < length ? (length - 1) / 8 * 8 + 4 : 4] = last;
 }
 
-// Of a ready unit, with sense and counts.
+// Of a ready unit, with sense and counts and an empty map.
 void fill_rest(const struct buffers *b)
 {
     if (b->length[STORAGE] > 0) memset(b->at[STORAGE], 0xD1, b->length[STORAGE]);
     if (b->length[STORE] > 0) memset(b->at[STORE], 0xD2, b->length[STORE]);
     if (b->length[RECORD] > 0) memset(b->at[RECORD], 0xD3, b->length[RECORD]);
+    if (b->length[RECORD] > MAP_AT) memset(b->at[RECORD] + MAP_AT, 0, b->length[RECORD] - MAP_AT);
     if (b->length[ANSWERS] > 0) memset(b->at[ANSWERS], 0xD4, b->length[ANSWERS]);
 }
 
@@ -89,6 +94,7 @@ static bool call_holds(const struct call *c, bool at_end)
     buffers_place(&library, &twin, c->length, at_end);
     fill_chain(&library, c->last);
     fill_rest(&library);
+    if (c->bad_map && c->length[RECORD] > MAP_AT) library.at[RECORD][MAP_AT] = 0xD3;
     buffers_copy(&library, &twin);
     expect(&twin, c->result);
     uint32_t result = call_library(&library);
@@ -96,17 +102,17 @@ static bool call_holds(const struct call *c, bool at_end)
     return buffers_equal(&library, &twin) && result == c->result;
 }
 
-// 01: the order of the call's causes. Each of the 63 sets of broken rules gives the lowest of them. Rule 5 also holds
-// for a chain of 0 words and rule 4 is broken by no answers at all, so that every set can be built.
+// 01: the order of the call's causes; 02, ask 4: 8 after 6. Each of the 127 sets of broken rules gives the lowest of them. Rule 5
+// also holds for a chain of 0 words and rule 4 is broken by no answers at all, so that every set can be built.
 static bool call_order(void)
 {
-    for (unsigned broken = 1; broken < 64; broken++) {
-        struct call c = {"order", {16, STORAGE_OF, 4096, 34, 16}, (uint8_t)((broken & 16) != 0 ? 0x80 : 0), 0};
+    for (unsigned broken = 1; broken < 128; broken++) {
+        struct call c = {"order", {16, STORAGE_OF, 4096, 290, 16}, (uint8_t)((broken & 16) != 0 ? 0x80 : 0), 0x800, (broken & 64) != 0};
         if ((broken & 1) != 0) c.length[CHAIN] = 12;
         if ((broken & 2) != 0) c.length[STORE] = 4095;
         if ((broken & 4) != 0) c.length[STORAGE] = MAX_STORAGE + 1;
         if ((broken & 8) != 0) c.length[ANSWERS] = 11;
-        if ((broken & 32) != 0) c.length[RECORD] = 33;
+        if ((broken & 32) != 0) c.length[RECORD] = 289;
         for (unsigned cause = 6; cause >= 1; cause--)
             if ((broken >> (cause - 1) & 1) != 0) c.result = 256 * cause;
         if (!call_holds(&c, true)) return printf("  broken rules %02X\n", broken), false;
@@ -118,7 +124,7 @@ static bool call_order(void)
 // words have flag 40 each is a command; where they have flag 80 all are pieces of the first, which alone is reached.
 static bool call_end(uint8_t link)
 {
-    static const size_t length[BUFFERS] = {256, STORAGE_OF, 4096, 34, 256};
+    static const size_t length[BUFFERS] = {256, STORAGE_OF, 4096, 290, 256};
     for (uint32_t end = 0; end < 32; end++) {
         struct buffers library, twin;
         uint32_t reached = (link & 0x80) != 0 ? 1 : end + 1;
@@ -134,7 +140,7 @@ static bool call_end(uint8_t link)
     return true;
 }
 
-// Record set-up: sense and counts zero, the two bytes as given; another length gets 6 and nothing is written.
+// Record set-up: sense, counts and map zero, the two bytes as given; another length gets 6 and nothing is written.
 static bool record_holds(size_t size, uint8_t ready, uint8_t read_only, bool at_end)
 {
     struct buffers library, twin;
@@ -143,7 +149,7 @@ static bool record_holds(size_t size, uint8_t ready, uint8_t read_only, bool at_
     memset(library.at[RECORD], 0xD3, size);
     buffers_copy(&library, &twin);
     if (size == RECORD_SIZE) {
-        memset(twin.at[RECORD], 0, 32);
+        memset(twin.at[RECORD], 0, RECORD_SIZE);
         twin.at[RECORD][32] = ready;
         twin.at[RECORD][33] = read_only;
     }
@@ -160,7 +166,7 @@ static bool record_values(void)
 
 static bool record_lengths(void)
 {
-    for (size_t size = 0; size < 300; size++)
+    for (size_t size = 0; size < 600; size++)
         if (size != RECORD_SIZE && !(record_holds(size, 1, 0, true) && record_holds(size, 0, 1, false))) return false;
     return call_library_record(NULL, 0, 1, 0) == 0x600;
 }
@@ -168,7 +174,7 @@ static bool record_lengths(void)
 void test_calls(void)
 {
     for (size_t i = 0; i < COUNT_OF(calls); i++) check("calls", calls[i].name, call_holds(&calls[i], true) && call_holds(&calls[i], false));
-    check("calls", "the order of causes 1 to 6", call_order());
+    check("calls", "the order of causes 1 to 6 and 8", call_order());
     check("calls", "5, the end at each word, flag 40", call_end(0x40));
     check("calls", "5, the end at each word, flag 80", call_end(0x80));
     check("calls", "5, the end at each word, flags 80 and 40", call_end(0xC0));

@@ -209,7 +209,7 @@ static const struct { const char *name, *chains; size_t results; } bad_classes[]
 // With everything else right, and with store, main storage and record such that every chain would have causes 2, 3 or 6.
 static bool bad_class_holds(size_t i)
 {
-    static const size_t wrong[3][BUFFERS] = {{0, 32, 4095, 33, 0}, {0, 32, 0, RECORD_SIZE, 0}, {0, MAX_STORAGE + 1, 4096, 35, 0}};
+    static const size_t wrong[3][BUFFERS] = {{0, 32, 4095, 289, 0}, {0, 32, 0, RECORD_SIZE, 0}, {0, MAX_STORAGE + 1, 4096, 291, 0}};
     if (!called_with(bad_classes[i].chains, plain_length, bad_classes[i].results, 0x700, "")) return false;
     for (size_t k = 0; k < (i == 2 ? 3 : 2); k++) // the large one once
         if (!called_with(bad_classes[i].chains, wrong[k], bad_classes[i].results, 0x700, "")) return printf("  wrong %zu\n", k), false;
@@ -219,8 +219,8 @@ static bool bad_class_holds(size_t i)
 // An empty buffer is no chain, and right: nothing is looked at and nothing written, whatever the rest is.
 static bool empty_class(void)
 {
-    static const size_t others[5][BUFFERS] = {{0, 32, 4096, RECORD_SIZE, 0}, {0, 0, 0, 0, 0}, {0, 32, 4095, 33, 0},
-                                              {0, MAX_STORAGE + 1, 512, 34, 0}, {0, 1, 513, 35, 0}};
+    static const size_t others[5][BUFFERS] = {{0, 32, 4096, RECORD_SIZE, 0}, {0, 0, 0, 0, 0}, {0, 32, 4095, 289, 0},
+                                              {0, MAX_STORAGE + 1, 512, 290, 0}, {0, 1, 513, 291, 0}};
     for (size_t i = 0; i < 5; i++)
         for (size_t results = 0; results < 14; results++)
             if (!called_with("", others[i], results, 0, "")) return printf("  others %zu, results of %zu\n", i, results), false;
@@ -230,9 +230,9 @@ static bool empty_class(void)
 // NULL for what has no length. With no results a chain has no room; without the rest it has causes 1, 2, 6, or it runs.
 static bool null_class(void)
 {
-    static const struct buffers none = {{NULL}, {0}};
+    static const struct buffers none = {.at = {NULL}};
     uint8_t chain[10], store[BLOCK] = {0}, record[RECORD_SIZE] = {[32] = 1}, results[12], wanted[12];
-    struct buffers b = {{chain, NULL, NULL, NULL, NULL}, {text_bytes(chain, 10, NOP_CHAIN), 0, 0, 0, 0}};
+    struct buffers b = {.at = {chain}, .length = {text_bytes(chain, 10, NOP_CHAIN)}};
     if (call_library_class(&none) != 0 || call_library_class(&b) != 0x700) return false;
     b.at[ANSWERS] = memset(results, 0xEE, 12);
     b.length[ANSWERS] = text_bytes(wanted, 12, REFUSED_BY("0002") "8*EE");
@@ -250,9 +250,9 @@ static bool null_class(void)
 // Causes inside results. Four chains: of 12 bytes, endless, empty, right. The first and third have 1 whatever the rest is; 2 and 3
 // come before 5, and 6 after it; so the endless one and the right one have these causes.
 static const struct { size_t length[BUFFERS]; unsigned endless, right; } cause_sets[] = {
-    {{0, 32, 4096, 34, 0}, 5, 0},   {{0, 32, 4096, 33, 0}, 5, 6},   {{0, 32, 4095, 34, 0}, 2, 2},
-    {{0, 32, 4095, 33, 0}, 2, 2},   {{0, MAX_STORAGE + 1, 4096, 34, 0}, 3, 3}, {{0, MAX_STORAGE + 1, 4096, 35, 0}, 3, 3},
-    {{0, MAX_STORAGE + 1, 0, 34, 0}, 2, 2}, {{0, MAX_STORAGE + 1, 513, 35, 0}, 2, 2},
+    {{0, 32, 4096, 290, 0}, 5, 0},   {{0, 32, 4096, 289, 0}, 5, 6},   {{0, 32, 4095, 290, 0}, 2, 2},
+    {{0, 32, 4095, 289, 0}, 2, 2},   {{0, MAX_STORAGE + 1, 4096, 290, 0}, 3, 3}, {{0, MAX_STORAGE + 1, 4096, 291, 0}, 3, 3},
+    {{0, MAX_STORAGE + 1, 0, 290, 0}, 2, 2}, {{0, MAX_STORAGE + 1, 513, 291, 0}, 2, 2}, {{0, 32, 4096, 34, 0}, 5, 6},
 };
 
 static bool causes_in_results(void)

@@ -9,7 +9,7 @@
 
 #define BATCH 1000u
 #define MOST_CHAINS 200u
-#define CAUSES 7
+#define CAUSES 9
 
 // How a class is made wrong. NOT_AT_ALL makes most of them.
 enum damage { NOT_AT_ALL, BUFFER_LONGER, BUFFER_SHORTER, LENGTH_CHANGED, LENGTH_SWAPPED, RESULTS_SHORTER, RESULTS_BY_ONE, DAMAGES };
@@ -17,7 +17,7 @@ enum damage { NOT_AT_ALL, BUFFER_LONGER, BUFFER_SHORTER, LENGTH_CHANGED, LENGTH_
 // What the classes have to reach, besides causes.
 enum kind {
     CLASS_OF_NONE, CLASS_OF_ONE, CLASS_OF_MANY, EXACT_RESULTS, MORE_RESULTS, LENGTH_0, LENGTH_ODD, LENGTH_OVER, LENGTH_256, ALL_ANSWERS,
-    ROOM_LEFT, RAN_AFTER_REFUSED, READ_AFTER_WRITE, WRITE_AFTER_READ, SENSE_LEFT, IN_PIECES, RIGHT_AGAIN,
+    ROOM_LEFT, RAN_AFTER_REFUSED, READ_AFTER_WRITE, WRITE_AFTER_READ, SENSE_LEFT, IN_PIECES, RIGHT_AGAIN, MAP_CHANGED,
     KINDS
 };
 
@@ -30,7 +30,7 @@ static const char *const kind_names[KINDS] = {
     "no chain", "one chain", "a hundred chains or more", "exact results", "more results than needed", "a chain of length 0",
     "a length no multiple of 8", "a length over 256", "a length of 256", "32 answers", "room not used", "a chain run after a refused one",
     "a READ after an earlier chain's WRITE", "a WRITE after an earlier chain's READ", "a SENSE of what an earlier chain left",
-    "a chain with pieces", "a changed class that is right",
+    "a chain with pieces", "a changed class that is right", "a changed map",
 };
 
 struct tally {
@@ -41,6 +41,7 @@ struct tally {
 struct plan {
     uint32_t chains, length[MOST_CHAINS];
     size_t chains_len, results_len; // as they are right
+    struct device device;
     enum damage damage;
 };
 
@@ -63,6 +64,8 @@ static void plan_class(struct random *r, struct plan *p)
     p->chains = kind < 4 ? 0 : kind < 150 ? 1 + random_below(r, 6) : kind < 198 ? 1 + random_below(r, 20) : 100 + random_below(r, 101);
     p->damage = percent(r, 80) ? NOT_AT_ALL : (enum damage)(1 + random_below(r, DAMAGES - 1));
     p->chains_len = p->results_len = 0;
+    p->device = (struct device){.primaries = 1 + random_below(r, 12), .alternates = generate_alternates(r)};
+    generate_map(r, &p->device);
     for (uint32_t i = 0; i < p->chains; i++) {
         p->length[i] = some_length(r);
         p->chains_len += 2 + p->length[i];
@@ -75,13 +78,13 @@ static void some_lengths(struct random *r, const struct plan *p, size_t length[B
 {
     length[CHAIN] = p->chains_len;
     length[STORAGE] = random_below(r, 100) < 3 ? random_below(r, 100) : 600 + random_below(r, 7000);
-    length[STORE] = (size_t)BLOCK * (1 + random_below(r, 12));
+    length[STORE] = (size_t)BLOCK * (p->device.primaries + p->device.alternates);
     length[RECORD] = RECORD_SIZE;
     length[ANSWERS] = p->results_len + (percent(r, 60) ? 0 : random_below(r, 40));
     switch (random_below(r, 200)) {
     case 0: case 1: length[STORE] -= 1 + random_below(r, BLOCK); break;
-    case 2: case 3: case 4: length[RECORD] = percent(r, 50) ? 33 : random_below(r, 100); break;
-    case 5: length[STORAGE] = MAX_STORAGE + 1; break;
+    case 2: case 3: case 4: length[RECORD] = percent(r, 50) ? RECORD_SIZE - 1 : random_below(r, 600); break;
+    case 5: case 6: length[STORAGE] = MAX_STORAGE + 1; break;
     default: break;
     }
     if (p->damage == BUFFER_LONGER) length[CHAIN] += 1 + random_below(r, 12);
@@ -103,19 +106,21 @@ static void make_class(struct random *r, const struct plan *p, struct buffers *l
 {
     size_t length[BUFFERS], at = 0;
     uint32_t parameters = 0, changed = p->chains > 0 ? random_below(r, p->chains) : 0;
+    struct device believed = p->device; // formats change it, from chain to chain
     uint8_t record[RECORD_SIZE];
     some_lengths(r, p, length);
     buffers_place(library, twin, length, percent(r, 50));
+    library->alternates = twin->alternates = percent(r, 99) ? p->device.alternates : 60 + random_below(r, 12);
     generate_fill(r, library, twin, length[STORAGE] > MAX_STORAGE);
     for (uint32_t i = 0; i < p->chains; at += 2 + p->length[i++]) {
         uint32_t said = p->length[i];
-        generate_chain(r, library, twin, at + 2, said / 8, &parameters);
+        generate_chain(r, library, twin, &believed, at + 2, said / 8, &parameters);
         if (i == changed && p->damage == LENGTH_CHANGED) said ^= 1u << random_below(r, 16);
         if (i == changed && p->damage == LENGTH_SWAPPED) said = (said << 8 | said >> 8) & 0xFFFF;
         put_length(library, at, said);
         put_length(twin, at, said);
     }
-    generate_record(r, record, percent(r, 90));
+    generate_record(r, record, &p->device, percent(r, 80));
     if (length[RECORD] != RECORD_SIZE) return;
     memcpy(library->at[RECORD], record, RECORD_SIZE);
     memcpy(twin->at[RECORD], record, RECORD_SIZE);
@@ -214,17 +219,33 @@ static bool tally_class(struct tally *t, const struct buffers *b, const struct p
     return at.chains_len == 0 && (p->damage != NOT_AT_ALL || chains == p->chains);
 }
 
+// 02, ask 4: a class that was run leaves every entry as it was, taken where it was unused, or defective where it was taken or
+// unused; one that is defective stays so. Tells whether; and counts a map that was changed.
+static bool map_is_kept(struct tally *t, const uint8_t *before, const struct buffers *b)
+{
+    if (b->length[RECORD] != RECORD_SIZE) return true;
+    const uint8_t *after = b->at[RECORD] + MAP_AT;
+    for (size_t i = 0; i < MAP_SIZE; i += 4) {
+        uint32_t was = get32(before + i), is = get32(after + i);
+        if (is != was && was != 0 && (was == DEFECTIVE || is != DEFECTIVE)) return printf("  entry %zu\n", i / 4), false;
+    }
+    t->kinds[MAP_CHANGED] += memcmp(before, after, MAP_SIZE) != 0;
+    return true;
+}
+
 // One class. Of two, one is compared with the second program and one with the library's own calls.
 static bool agree(struct random *r, struct tally *t, bool by_itself)
 {
     static struct plan p;
     struct buffers library, twin;
+    uint8_t map[MAP_SIZE] = {0};
     plan_class(r, &p);
     make_class(r, &p, &library, &twin);
+    if (library.length[RECORD] == RECORD_SIZE) memcpy(map, library.at[RECORD] + MAP_AT, MAP_SIZE);
     uint32_t wanted = by_itself ? one_by_one(&twin) : call_second_class(&twin), result = call_library_class(&library);
     bool holds = result == wanted && result != FAULT && buffers_equal(&library, &twin);
     if (result != wanted) printf("  result %lX, not %lX\n", (unsigned long)result, (unsigned long)wanted);
-    if (holds && result == 0) holds = tally_class(t, &library, &p);
+    if (holds && result == 0) holds = map_is_kept(t, map, &library) && tally_class(t, &library, &p);
     else if (holds) t->damages[p.damage]++;
     if (!holds) printf("  %lu chains, wrong %s, compared with %s\n", (unsigned long)p.chains, damage_names[p.damage],
                        by_itself ? "the library's own calls" : "the second program");
@@ -238,7 +259,7 @@ static bool print_tally(const struct tally *t, uint32_t classes)
     bool all = true;
     for (unsigned i = 0; i < CAUSES; i++) {
         printf("class, cause %u: %lu\n", i, t->causes[i]);
-        if (i == 4 ? t->causes[i] != 0 : t->causes[i] < least) all = false; // 4 cannot come
+        if (i == 4 || i == 7 ? t->causes[i] != 0 : t->causes[i] < least) all = false; // 4 cannot come, 7 is the class's own
     }
     for (int i = 1; i < DAMAGES; i++) {
         printf("class, wrong %s: %lu\n", damage_names[i], t->damages[i]);

@@ -12,7 +12,8 @@ struct maker {
     const struct buffers *library, *twin;
     size_t chain;                   // where the chain begins in its buffer: 0, but for the chains of a class
     uint32_t words, limit;          // command words so far, and how many there shall be
-    uint32_t storage, blocks;       // bytes of storage, blocks of the store
+    struct device *device;
+    uint32_t storage, blocks;       // bytes of storage; the device's blocks, without alternates
     uint32_t parameters;            // where the next parameters go
     uint32_t offset, first, last;
     uint32_t operation, block_count;
@@ -20,6 +21,7 @@ struct maker {
     bool careful;                   // nothing is damaged, so that the chain gets far
     bool in_pieces;                 // many commands are in pieces
     bool huge;                      // counts are summed up to more than 65,535
+    bool formats;                   // many LOCATEs are formats
 };
 
 uint64_t random_next(struct random *r) // splitmix64
@@ -51,11 +53,6 @@ static void put(const struct maker *m, int buffer, size_t at, const uint8_t *byt
     if (at > m->library->length[buffer] || size > m->library->length[buffer] - at) return;
     memcpy(m->library->at[buffer] + at, bytes, size);
     memcpy(m->twin->at[buffer] + at, bytes, size);
-}
-
-static void put32(uint8_t *to, uint32_t value)
-{
-    for (int i = 0; i < 4; i++) to[i] = (uint8_t)(value >> (24 - 8 * i));
 }
 
 // A command word, with flag 40 unless it has flag 80; now and then one that the channel or the unit refuses (13, 43, 10, 11, 12).
@@ -171,6 +168,96 @@ static void put_huge(struct maker *m, uint32_t command, uint32_t exact)
     put_word(m, later_byte(m, command), area(m, rest), suppress(m, false), rest);
 }
 
+// ---- Alternates (02, ask 4).
+
+uint32_t generate_alternates(struct random *r)
+{
+    uint32_t kind = random_below(r, 100);
+    if (kind < 45) return 0;
+    if (kind < 57) return 1;
+    if (kind < 82) return between(r, 2, 6);
+    if (kind < 92) return MAX_ALTERNATES;
+    return between(r, 0, MAX_ALTERNATES);
+}
+
+static uint32_t entry(const uint8_t *map, uint32_t i) { return get32(map + 4 * i); }
+
+uint32_t place_of(const uint8_t *map, uint32_t primaries, uint32_t block)
+{
+    for (uint32_t i = 0; i < MAX_ALTERNATES; i++)
+        if (entry(map, i) == block + 1) return primaries + i;
+    return block;
+}
+
+static bool is_mapped(const struct device *d, uint32_t block) { return place_of(d->map, d->primaries, block) != block; }
+
+static uint32_t lowest_unused(const struct device *d)
+{
+    uint32_t i = 0;
+    while (i < d->alternates && entry(d->map, i) != 0) i++;
+    return i;
+}
+
+// A block for an entry: after the one before it, in a row; before it; or anywhere, block 0 more often than others.
+static uint32_t some_block(struct random *r, const struct device *d, uint32_t before)
+{
+    uint32_t kind = random_below(r, 100);
+    if (kind < 35 && before + 1 < d->primaries) return before + 1;
+    if (kind < 45 && before > 0) return before - 1;
+    if (kind < 55) return 0;
+    return random_below(r, d->primaries);
+}
+
+// Of a hundred entries so many are unused, and so many defective; in the first maps none is used, in the last none is left.
+void generate_map(struct random *r, struct device *d)
+{
+    static const struct { uint32_t unused, defective; } kinds[8] = {
+        {100, 0}, {100, 0}, {90, 4}, {60, 10}, {30, 20}, {10, 5}, {0, 30}, {0, 0},
+    };
+    uint32_t kind = random_below(r, 8), block = 0;
+    memset(d->map, 0, MAP_SIZE);
+    if (d->primaries == 0 || d->alternates > MAX_ALTERNATES) return;
+    for (uint32_t i = 0; i < d->alternates; i++) {
+        if (percent(r, kinds[kind].unused)) continue;
+        uint32_t candidate = some_block(r, d, block);
+        bool defective = percent(r, kinds[kind].defective) || is_mapped(d, candidate);
+        put32(d->map + 4 * i, defective ? DEFECTIVE : candidate + 1);
+        if (!defective) block = candidate;
+    }
+    if (kind == 7 && d->alternates > 0 && percent(r, 50)) put32(d->map + 4 * random_below(r, d->alternates), 0); // one is left
+}
+
+// Two entries that name one block; one that names none, the nearest or the farthest; or one beyond the alternates.
+void damage_map(struct random *r, const struct device *d, uint8_t *map)
+{
+    static const uint32_t values[4] = {1, DEFECTIVE, 0x01000000, 0x80000000};
+    uint32_t i = d->alternates > 0 ? random_below(r, d->alternates) : MAX_ALTERNATES, k = d->alternates > 1 ? (i + 1) % d->alternates : i;
+    switch (i < MAX_ALTERNATES ? random_below(r, 3) : 2) {
+    case 0:
+        if (percent(r, 50) && d->alternates > 1) k = (i + 1 + random_below(r, d->alternates - 1)) % d->alternates;
+        if (entry(map, i) == 0 || entry(map, i) == DEFECTIVE) put32(map + 4 * i, between(r, 1, d->primaries));
+        memcpy(map + 4 * k, map + 4 * i, 4);
+        break;
+    case 1:
+        put32(map + 4 * i, percent(r, 50) ? d->primaries + 1 : percent(r, 50) ? DEFECTIVE - 1 : between(r, d->primaries + 1, DEFECTIVE - 1));
+        break;
+    default:
+        if (d->alternates == MAX_ALTERNATES) break;
+        i = percent(r, 40) ? d->alternates : percent(r, 40) ? MAX_ALTERNATES - 1 : between(r, d->alternates, MAX_ALTERNATES - 1);
+        put32(map + 4 * i, percent(r, 50) ? values[random_below(r, 4)] : between(r, 1, d->primaries));
+        break;
+    }
+}
+
+// What the author believes of a format.
+static void believe_format(struct device *d, uint32_t block)
+{
+    uint32_t taken = lowest_unused(d), old = place_of(d->map, d->primaries, block);
+    if (taken == d->alternates) return;
+    if (old != block) put32(d->map + 4 * (old - d->primaries), DEFECTIVE);
+    put32(d->map + 4 * taken, block + 1);
+}
+
 // ---- Commands.
 
 static uint32_t some_count(struct maker *m, uint32_t exact)
@@ -246,12 +333,30 @@ static void damage_locate(struct maker *m, uint8_t p[8], uint32_t *count)
     }
 }
 
+static uint32_t some_operation(struct maker *m)
+{
+    static const uint8_t operations[16] = {6, 6, 6, 6, 6, 1, 1, 1, 1, 5, 5, 5, 2, 2, 2, 4};
+    if (m->formats && percent(m->r, 35) && (!m->careful || lowest_unused(m->device) < m->device->alternates)) return 4;
+    return operations[random_below(m->r, m->careful ? 15 : 16)];
+}
+
+// Where in the extent a LOCATE for so many blocks begins, counted from its first; often such that a mapped block is among them.
+static uint32_t some_start(struct maker *m, uint32_t range)
+{
+    uint32_t last = m->last - m->first + 1 - range, i = random_below(m->r, MAX_ALTERNATES), block = entry(m->device->map, i) - 1;
+    if (percent(m->r, 40) && block >= m->offset && block - m->offset <= m->last - m->first) {
+        uint32_t start = block - m->offset, back = random_below(m->r, range);
+        start -= back < start ? back : start;
+        return start < last ? start : last;
+    }
+    return random_below(m->r, last + 1);
+}
+
 // The eight bytes of a LOCATE inside the extent.
 static void locate_parameters(struct maker *m, uint8_t p[8])
 {
-    static const uint8_t operations[16] = {6, 6, 6, 6, 6, 1, 1, 1, 1, 5, 5, 5, 2, 2, 2, 4};
     uint32_t size = m->last - m->first + 1, most = size < 65535 ? size : 65535;
-    m->operation = operations[random_below(m->r, m->careful ? 15 : 16)];
+    m->operation = some_operation(m);
     uint32_t limit = m->huge ? 65535 : percent(m->r, 70) ? 4 : percent(m->r, 70) ? 127 : 65535;
     m->block_count = between(m->r, 1, most < limit ? most : limit);
     if (m->operation == 4) m->block_count = 1;
@@ -266,7 +371,9 @@ static void locate_parameters(struct maker *m, uint8_t p[8])
     p[0] = (uint8_t)(m->operation | (percent(m->r, 15) ? 0x10 : 0));
     p[2] = (uint8_t)(m->block_count >> 8);
     p[3] = (uint8_t)m->block_count;
-    put32(p + 4, m->first + random_below(m->r, size - range + 1));
+    uint32_t start = some_start(m, range);
+    put32(p + 4, m->first + start);
+    if (m->operation == 4) believe_format(m->device, m->offset + start);
 }
 
 static void make_locate(struct maker *m)
@@ -278,10 +385,13 @@ static void make_locate(struct maker *m)
     put_command(m, 0x43, put_parameters(m, p, 8), suppress(m, count == 8), count);
 }
 
+// Behind a LOCATE; now and then behind a format too, where it is refused by 42.
 static void make_transfer(struct maker *m)
 {
+    if (m->operation == 4 && (m->careful || percent(m->r, 80))) return;
     bool writes = m->operation == 1 || m->operation == 5;
     uint32_t exact = BLOCK * m->block_count, count = some_count(m, exact);
+    if (m->operation == 4) writes = percent(m->r, 50);
     if (mishap(m, 5)) writes = !writes;
     if (m->huge && exact > 65535 && percent(m->r, 80)) put_huge(m, writes ? 0x41 : 0x42, exact);
     else put_command(m, writes ? 0x41 : 0x42, area(m, count), suppress(m, count == exact), count);
@@ -292,8 +402,9 @@ static void make_overwrite(struct maker *m)
 {
     uint8_t p[8], inner[8];
     uint32_t displacement = m->first + random_below(m->r, m->last - m->first + 1), at = random_below(m->r, BLOCK - 7), to = area(m, BLOCK);
+    uint32_t place = place_of(m->device->map, m->blocks, displacement - m->first + m->offset);
     locate_parameters(m, inner);
-    put(m, STORE, (size_t)BLOCK * (displacement - m->first + m->offset) + at, inner, 8);
+    put(m, STORE, (size_t)BLOCK * place + at, inner, 8);
     memcpy(p, (const uint8_t[8]){6, 0, 0, 1}, 8);
     put32(p + 4, displacement);
     put_command(m, 0x43, put_parameters(m, p, 8), 0, 8);
@@ -396,15 +507,15 @@ static void damage_lengths(struct random *r, size_t length[BUFFERS])
     case 4: length[CHAIN] = 8 * (size_t)between(r, 33, 70); break;
     case 1: length[STORE] = percent(r, 50) ? length[STORE] - between(r, 1, 512) : random_below(r, 4096); break;
     case 2: length[ANSWERS] = percent(r, 50) ? length[CHAIN] - between(r, 1, 8) : random_below(r, 300); break;
-    case 3: length[RECORD] = percent(r, 50) ? between(r, 33, 35) : random_below(r, 300); break;
+    case 3: length[RECORD] = percent(r, 50) ? RECORD_SIZE + between(r, 1, 3) - 2 : random_below(r, 600); break;
     default: break;
     }
 }
 
 // ---- The whole input.
 
-// Counts zero, anything, or near their largest values.
-void generate_record(struct random *r, uint8_t record[RECORD_SIZE], bool careful)
+// Counts zero, anything, or near their largest values; the device's map, or one that is wrong.
+void generate_record(struct random *r, uint8_t record[RECORD_SIZE], const struct device *d, bool careful)
 {
     memset(record, 0, RECORD_SIZE);
     if (percent(r, 50)) random_fill(r, record, 24);
@@ -420,6 +531,8 @@ void generate_record(struct random *r, uint8_t record[RECORD_SIZE], bool careful
     }
     record[32] = careful || percent(r, 95) ? (uint8_t)between(r, 1, 255) : 0;
     record[33] = careful || percent(r, 88) ? 0 : (uint8_t)between(r, 1, 255);
+    memcpy(record + MAP_AT, d->map, MAP_SIZE);
+    if (!careful && percent(r, 4) && d->alternates <= MAX_ALTERNATES) damage_map(r, d, record + MAP_AT);
 }
 
 // The last word ends the chain; now and then an earlier one does, or none, with flag 40 or with flag 80.
@@ -442,14 +555,14 @@ static void make_chain(struct maker *m, bool meaningful)
     end_chain(m);
 }
 
-void generate_chain(struct random *r, const struct buffers *library, const struct buffers *twin, size_t at, uint32_t words,
-                    uint32_t *parameters)
+void generate_chain(struct random *r, const struct buffers *library, const struct buffers *twin, struct device *d, size_t at,
+                    uint32_t words, uint32_t *parameters)
 {
-    uint32_t blocks = (uint32_t)(library->length[STORE] / BLOCK);
-    struct maker m = {.r = r, .library = library, .twin = twin, .chain = at, .limit = words, .parameters = *parameters,
-                      .storage = (uint32_t)library->length[STORAGE], .blocks = blocks > 0 ? blocks : 1};
+    struct maker m = {.r = r, .library = library, .twin = twin, .device = d, .chain = at, .limit = words, .parameters = *parameters,
+                      .storage = (uint32_t)library->length[STORAGE], .blocks = d->primaries};
     m.careful = percent(r, 60);
     m.in_pieces = percent(r, 40);
+    m.formats = percent(r, 30);
     make_chain(&m, m.careful || percent(r, 95));
     *parameters = m.parameters;
 }
@@ -472,6 +585,35 @@ void generate_large_contents(struct random *r)
     generate_fill(r, &library, &twin, false);
 }
 
+// The device that a store of this length is. A small one gets its alternates added; of a large one they are the last blocks.
+static struct device some_device(struct random *r, size_t *store, bool large)
+{
+    struct device d = {.alternates = generate_alternates(r)};
+    if (!large) *store += (size_t)BLOCK * d.alternates;
+    d.primaries = (uint32_t)(*store / BLOCK);
+    if (d.alternates >= d.primaries) d.alternates = d.primaries - 1;
+    d.primaries -= d.alternates;
+    generate_map(r, &d);
+    return d;
+}
+
+// One number in a hundred or so is wrong: too many, no primary, or as many as leave the map wrong.
+static uint32_t lent_alternates(struct random *r, const struct device *d)
+{
+    uint32_t blocks = d->primaries + d->alternates;
+    if (blocks > MAX_ALTERNATES + 1 && random_below(r, 20) == 0) return MAX_ALTERNATES + 1; // and a primary is left
+    switch (random_below(r, 500)) {
+    case 0: return between(r, MAX_ALTERNATES + 1, MAX_ALTERNATES + 3);
+    case 1: return blocks;
+    case 2: return blocks + between(r, 1, 3);
+    case 3: return TOP - random_below(r, 3);
+    case 4: return random_below(r, MAX_ALTERNATES + 1);
+    case 5: return d->alternates + 1;
+    case 6: return d->alternates > 0 ? d->alternates - 1 : 0;
+    default: return d->alternates;
+    }
+}
+
 void generate(struct random *r, struct buffers *library, struct buffers *twin, uint32_t large)
 {
     struct maker m = {.r = r, .library = library, .twin = twin};
@@ -480,19 +622,24 @@ void generate(struct random *r, struct buffers *library, struct buffers *twin, u
     size_t length[BUFFERS] = {8 * (size_t)m.limit, some_storage(r), (size_t)BLOCK * some_blocks(r), RECORD_SIZE, 0};
     m.careful = percent(r, 40);
     m.in_pieces = percent(r, 50);
+    m.formats = percent(r, 40);
     m.huge = random_below(r, 70) == 0;
     if (m.huge) {
         length[STORAGE] = between(r, 65535, 140000);
         length[STORE] = (size_t)BLOCK * between(r, 257, 900);
     }
     if (large != 0) large_lengths(r, large - 1, length);
+    struct device device = some_device(r, &length[STORE], large != 0), before = device;
+    m.device = &device;
     m.storage = (uint32_t)length[STORAGE];
-    m.blocks = (uint32_t)(length[STORE] / BLOCK);
+    m.blocks = device.primaries;
     length[ANSWERS] = length[CHAIN] + (percent(r, 50) ? 0 : random_below(r, 20));
     if (large == 0) damage_lengths(r, length);
     buffers_place(library, twin, length, percent(r, 50));
+    library->alternates = twin->alternates = m.careful ? device.alternates : lent_alternates(r, &device);
     generate_fill(r, library, twin, large != 0);
     make_chain(&m, m.careful || percent(r, 95));
-    generate_record(r, record, m.careful);
+    generate_record(r, record, &before, m.careful);
     if (m.careful || percent(r, 97)) put(&m, RECORD, 0, record, RECORD_SIZE);
+    else if (percent(r, 70)) put(&m, RECORD, MAP_AT, record + MAP_AT, MAP_SIZE); // the rest is anything
 }

@@ -18,8 +18,8 @@ static int class_is_right(void)
 
     memcpy(chains + 2, chain, sizeof chain);
     memcpy(chains + 20, chains, 2 + sizeof chain);
-    uint32_t result = loughrella_run_class(chains, sizeof chains, storage, sizeof storage, store, sizeof store, record, sizeof record,
-                                           results, sizeof results);
+    uint32_t result = loughrella_run_class(chains, sizeof chains, storage, sizeof storage, store, sizeof store, 0, record,
+                                           sizeof record, results, sizeof results);
     struct loughrella_walk at = loughrella_walk_results(chains, sizeof chains, results, sizeof results);
     for (; loughrella_next_result(&at); walked++) {
         printf("cause %u, %u answers\n", at.cause, at.reached);
@@ -27,8 +27,8 @@ static int class_is_right(void)
         else right += at.cause == 0 && at.reached == 2 && memcmp(at.answers, expected, sizeof expected) == 0;
     }
     if (result != 0 || walked != 3 || right != 3 || at.chains_len != 0 || at.results_len != 0) return 0;
-    result = loughrella_run_class(chains, sizeof chains, storage, sizeof storage, store, sizeof store, record, sizeof record,
-                                  results, sizeof results - 1);
+    result = loughrella_run_class(chains, sizeof chains, storage, sizeof storage, store, sizeof store, 0, record,
+                                  sizeof record, results, sizeof results - 1);
     return result == 256 * LOUGHRELLA_BAD_CLASS;
 }
 
@@ -37,9 +37,9 @@ int main(void)
     uint8_t answers[16];
 
     loughrella_record(record, sizeof record, 1, 0);
-    uint32_t result = loughrella_run(chain, sizeof chain, storage, sizeof storage, store, sizeof store, record, sizeof record, answers,
-                                     sizeof answers);
+    uint32_t result = loughrella_run(chain, sizeof chain, storage, sizeof storage, store, sizeof store, 0, record, sizeof record,
+                                     answers, sizeof answers);
     printf("cause %u, %u commands\n", (unsigned)LOUGHRELLA_CAUSE(result), (unsigned)LOUGHRELLA_REACHED(result));
     if (result != 2 || memcmp(answers, expected, sizeof answers) != 0 || !class_is_right()) return 1;
-    return loughrella_record(record, 33, 1, 0) == 256 * LOUGHRELLA_BAD_RECORD ? 0 : 1;
+    return loughrella_record(record, sizeof record - 1, 1, 0) == 256 * LOUGHRELLA_BAD_RECORD ? 0 : 1;
 }

@@ -26,6 +26,7 @@ int main(int argc, char **argv)
     test_causes();
     test_pieces();
     test_calls();
+    test_alternates();
     test_class();
     test_bounds(seed);
     test_class_random(chains / 10, seed);

@@ -58,20 +58,25 @@ static void build_before(const struct line *line, const struct buffers *b)
     text_bytes(b->at[CHAIN], b->length[CHAIN], line->chain);
     text_bytes(b->at[STORAGE], b->length[STORAGE], line->storage);
     for (size_t i = 0; i < b->length[STORE]; i++) b->at[STORE][i] = (uint8_t)(i / BLOCK);
-    apply(b->at[STORE], b->length[STORE], line->store_before, 1);
-    text_bytes(b->at[RECORD], RECORD_SIZE, line->record != NULL ? line->record : ready_record);
+    apply(b->at[STORE], b->length[STORE], line->store_before, 2);
+    memset(b->at[RECORD], 0, RECORD_SIZE);
+    text_bytes(b->at[RECORD], MAP_AT, line->record != NULL ? line->record : ready_record);
+    if (line->map != NULL) text_bytes(b->at[RECORD] + MAP_AT, MAP_SIZE, line->map);
     memset(b->at[ANSWERS], FRESH, b->length[ANSWERS]);
 }
 
 // Turns the copy of what was there before into what should be there after.
 static void build_after(const struct line *line, const struct buffers *b)
 {
-    apply(b->at[STORAGE], b->length[STORAGE], line->storage_after, 3);
-    apply(b->at[STORE], b->length[STORE], line->store_after, 2);
+    apply(b->at[STORAGE], b->length[STORAGE], line->storage_after, 4);
+    apply(b->at[STORE], b->length[STORE], line->store_after, 4);
     text_bytes(b->at[ANSWERS], b->length[ANSWERS], line->answers);
     memset(b->at[RECORD], 0, 32);
     if (line->sense != NULL) text_bytes(b->at[RECORD], 24, line->sense);
     if (line->log != NULL) text_bytes(b->at[RECORD] + 24, 8, line->log);
+    if (line->map_after == NULL) return;
+    memset(b->at[RECORD] + MAP_AT, 0, MAP_SIZE);
+    text_bytes(b->at[RECORD] + MAP_AT, MAP_SIZE, line->map_after);
 }
 
 // All lengths but the answers'.
@@ -79,7 +84,7 @@ static void line_lengths(const struct line *line, size_t length[BUFFERS])
 {
     length[CHAIN] = text_bytes(NULL, MAX_CLASS, line->chain);
     length[STORAGE] = text_bytes(NULL, MAX_STORAGE, line->storage);
-    length[STORE] = (size_t)BLOCK * (line->blocks != 0 ? line->blocks : 8);
+    length[STORE] = (size_t)BLOCK * ((line->blocks != 0 ? line->blocks : 8) + line->alternates);
     length[RECORD] = RECORD_SIZE;
 }
 
@@ -88,6 +93,7 @@ static bool call_holds(const struct line *line, uint32_t (*call)(const struct bu
 {
     struct buffers library, twin;
     buffers_place(&library, &twin, length, at_end);
+    library.alternates = line->alternates;
     build_before(line, &library);
     buffers_copy(&library, &twin);
     build_after(line, &twin);

@@ -1,4 +1,5 @@
-// Compares the library with the second program on random inputs: the result and all five buffers, whole.
+// Compares the library with the second program on random inputs: the result and all five buffers, whole. And some properties of
+// what a chain leaves hold whatever the second program says (02, ask 4).
 #include "test.h"
 
 #include <stdio.h>
@@ -9,6 +10,7 @@
 #define LARGE 100u // this many inputs, or nearly, have large buffers
 #define CAUSES 45
 #define WORDS 32
+#define KEPT_BLOCKS 1024u // a store of so many is kept as it was before the run
 
 // Besides causes and accepted commands, what the inputs have to reach.
 enum kind {
@@ -18,6 +20,8 @@ enum kind {
     NOT_REACHED, UNREACHED_SUPPRESSES, UNREACHED_DOES_NOT, DENSE, LAST_RESIDUAL, GATHERED_EXTENT, GATHERED_LOCATE, SPREAD_EXTENT,
     SPREAD_LOCATE, LATER_10, LATER_11, LATER_12, OVERLAP, ACROSS_BLOCKS, IDLE_40, IDLE_20, OTHER_BYTE, BYTE_13, NOP_OUTSIDE, SUM_65535,
     SUM_131072, MOVED_65535, MOVED_131072, SIXTEEN_PIECES, SLICE_ENDS_80,
+    FORMATTED, FORMATTED_AGAIN, EXHAUSTED, READ_MAPPED, READ_BOTH, WRITE_MAPPED, WRITE_BOTH, ZEROS_MAPPED, IPL_MAPPED, MOVED_FORMATTED,
+    AFTER_FORMAT, ALTERNATES_64, ONE_PRIMARY, WHOLE_WITH_ALTERNATES, TWO_NAMES, NAMES_NONE, BEYOND, OVER_64, NO_PRIMARY,
     KINDS
 };
 
@@ -33,6 +37,11 @@ static const char *const kind_names[KINDS] = {
     "pieces of a READ that overlap", "a piece across blocks", "flag 40 with flag 80, not at the end", "flag 20 with flag 80, not at the end",
     "another command byte in a piece", "a command byte of 13 in a piece", "NO-OPERATION with a piece outside", "a sum over 65,535",
     "a sum over 131,072", "over 65,535 bytes moved", "over 131,072 bytes moved", "sixteen pieces reached", "a slice that ends with flag 80",
+    "a format", "a format of a mapped block", "39 on a device with alternates", "READ of mapped blocks alone",
+    "READ of mapped blocks and others", "WRITE of mapped blocks alone", "WRITE of mapped blocks and others",
+    "WRITE whose zeros reach a mapped block", "READ IPL of a mapped block", "a transfer of a block that the chain formatted",
+    "42 after a format", "64 alternates", "one primary and alternates", "store of 131,072 blocks with alternates",
+    "8, two entries name one block", "8, an entry names none", "8, an entry beyond the alternates", "2, over 64 alternates", "2, no primary",
 };
 
 static const struct { uint8_t command; const char *name; } commands[] = {
@@ -40,7 +49,7 @@ static const struct { uint8_t command; const char *name; } commands[] = {
     {0x04, "SENSE"}, {0xE4, "SENSE TYPE"}, {0xA4, "READ AND RESET BUFFERED LOG"},
 };
 
-static const uint8_t expected_causes[] = {1,  2,  3,  4,  5,  6,  10, 11, 12, 13, 20, 21, 22, 23, 24, 25, 26,
+static const uint8_t expected_causes[] = {1,  2,  3,  4,  5,  6,  8,  10, 11, 12, 13, 20, 21, 22, 23, 24, 25, 26,
                                           30, 31, 32, 33, 34, 35, 36, 37, 38, 39, 40, 41, 42, 43, 44};
 
 struct tally {
@@ -52,6 +61,9 @@ struct tally {
 struct before {
     uint8_t record[RECORD_SIZE];
     uint8_t parameters[WORDS][16]; // storage at each word's address
+    uint32_t primaries, alternates;
+    bool has_store;
+    uint8_t store[KEPT_BLOCKS * BLOCK];
 };
 
 struct piece {
@@ -65,6 +77,8 @@ struct step {
     size_t first, pieces, reached; // its first word
     uint32_t sum, moved, residual, blocks;
     uint8_t command, flags, channel, cause; // the flags are the final piece's
+    bool known;                             // what follows is: no command before it has overwritten what it goes by
+    uint32_t operation, block, count;       // of a LOCATE, or of the one that a transfer goes by: its operation and blocks
 };
 
 static uint32_t big_endian(const uint8_t *p, int size)
@@ -76,7 +90,11 @@ static uint32_t big_endian(const uint8_t *p, int size)
 
 static void keep(const struct buffers *b, struct before *kept)
 {
-    memset(kept, 0, sizeof *kept);
+    memset(kept, 0, offsetof(struct before, store));
+    kept->alternates = b->alternates;
+    kept->primaries = (uint32_t)(b->length[STORE] / BLOCK) - b->alternates;
+    kept->has_store = b->length[STORE] <= sizeof kept->store;
+    if (kept->has_store) memcpy(kept->store, b->at[STORE], b->length[STORE]);
     memcpy(kept->record, b->at[RECORD], b->length[RECORD] < RECORD_SIZE ? b->length[RECORD] : RECORD_SIZE);
     for (size_t i = 0; i < WORDS && 8 * i + 8 <= b->length[CHAIN]; i++) {
         size_t address = big_endian(b->at[CHAIN] + 8 * i + 1, 3), length = b->length[STORAGE];
@@ -128,7 +146,7 @@ static bool was_overwritten(const struct step *steps, size_t i)
     for (size_t k = 0; k < i; k++)
         for (size_t n = 0; is_input(steps[k].command) && n < steps[k].reached; n++)
             for (size_t own = 0; own < steps[i].reached; own++)
-                if (meets(&steps[k].piece[n], &steps[i].piece[own], 8)) return true;
+                if (meets(&steps[k].piece[n], &steps[i].piece[own], steps[i].command == 0x63 ? 16 : 8)) return true;
     return false;
 }
 
@@ -141,8 +159,60 @@ static void gather(const struct step *s, const struct before *kept, uint8_t to[1
         for (uint32_t k = 0; k < s->piece[i].count && n < 16; k++) to[n++] = kept->parameters[s->first + i][k];
 }
 
+// Finds what each LOCATE, and each transfer behind it, is for: by the extent that stands, and by its own parameters.
+static void find_blocks(struct step *steps, size_t n, const struct before *kept)
+{
+    uint8_t p[16];
+    uint32_t offset = 0, first = 0; // as READ IPL sets them
+    bool known = true;
+    for (size_t i = 0; i < n; i++) {
+        struct step *s = &steps[i];
+        gather(s, kept, p);
+        if (s->command == 0x63 && s->cause == 0) {
+            offset = big_endian(p + 4, 4);
+            first = big_endian(p + 8, 4);
+            known = !was_overwritten(steps, i);
+        }
+        if (s->command == 0x43 && s->cause == 0) {
+            s->known = known && !was_overwritten(steps, i);
+            s->operation = p[0] & 0x0F;
+            s->block = big_endian(p + 4, 4) - first + offset;
+            s->count = big_endian(p + 2, 2);
+        }
+        if ((s->command == 0x41 || s->command == 0x42) && i > 0 && (s->cause == 0 || s->cause == 42)) {
+            s->known = steps[i - 1].known;
+            s->operation = steps[i - 1].operation;
+            s->block = steps[i - 1].block;
+            s->count = steps[i - 1].count;
+        }
+    }
+}
+
+// How many of these blocks the map has.
+static uint32_t mapped_among(const struct before *kept, uint32_t block, uint32_t count)
+{
+    uint32_t mapped = 0;
+    for (uint32_t i = 0; i < MAX_ALTERNATES; i++) mapped += get32(kept->record + MAP_AT + 4 * i) - 1 - block < count;
+    return mapped;
+}
+
+static void tally_mapped(struct tally *t, const struct before *kept, const struct step *steps, size_t i)
+{
+    const struct step *s = &steps[i];
+    uint32_t begun = mapped_among(kept, s->block, s->blocks), all = mapped_among(kept, s->block, s->count);
+    t->kinds[READ_MAPPED] += s->command == 0x42 && begun > 0 && begun == s->blocks;
+    t->kinds[READ_BOTH] += s->command == 0x42 && begun > 0 && begun < s->blocks;
+    t->kinds[WRITE_MAPPED] += s->command == 0x41 && all > 0 && all == s->count;
+    t->kinds[WRITE_BOTH] += s->command == 0x41 && all > 0 && all < s->count;
+    t->kinds[ZEROS_MAPPED] += s->command == 0x41 && all > begun;
+    for (size_t k = 0; k < i; k++)
+        t->kinds[MOVED_FORMATTED] += steps[k].command == 0x43 && steps[k].cause == 0 && steps[k].known && steps[k].operation == 4 &&
+                                     steps[k].block - s->block < s->blocks;
+}
+
 static void tally_transfer(struct tally *t, const struct before *kept, const struct step *steps, size_t i)
 {
+    if (steps[i].known) tally_mapped(t, kept, steps, i);
     const struct step *s = &steps[i];
     uint8_t p[16];
     if (was_overwritten(steps, i - 1)) return; // the parameters are not those kept
@@ -222,6 +292,8 @@ static void tally_split(struct tally *t, const struct buffers *b, const struct s
 
 static void tally_refusal(struct tally *t, const struct buffers *b, const struct step *s)
 {
+    t->kinds[EXHAUSTED] += s->cause == 39 && b->alternates > 0;
+    t->kinds[AFTER_FORMAT] += s->cause == 42 && s->known && s->operation == 4;
     if (s->cause < CAUSES) t->causes[s->cause]++;
     t->kinds[SENSE_KEPT] += s->cause < 20 && b->at[RECORD][0] != 0;
     t->kinds[EXTENT_LEFT] += s->cause >= 22 && s->cause <= 26 && s->sum > 16; // these have read their parameters
@@ -242,6 +314,9 @@ static void tally_step(struct tally *t, const struct buffers *b, const struct be
     t->accepted[s->command]++;
     t->kinds[INCORRECT_LENGTH] += s->channel == 0x40;
     t->kinds[SECOND_IPL] += s->command == 0x02 && i > 0;
+    t->kinds[IPL_MAPPED] += s->command == 0x02 && mapped_among(kept, 0, 1) > 0;
+    t->kinds[FORMATTED] += s->command == 0x43 && s->known && s->operation == 4;
+    t->kinds[FORMATTED_AGAIN] += s->command == 0x43 && s->known && s->operation == 4 && mapped_among(kept, s->block, 1) > 0;
     t->kinds[SENSE_NOT_READY] += s->command == 0x04 && kept->record[32] == 0;
     t->kinds[MODIFIER_3] += s->command == 0x43 && (p[0] & 0x10) != 0 && !was_overwritten(steps, i);
     t->kinds[OVERWRITTEN] += s->command == 0x43 && was_overwritten(steps, i);
@@ -249,21 +324,38 @@ static void tally_step(struct tally *t, const struct buffers *b, const struct be
     if (s->pieces > 1) tally_split(t, b, s, last);
 }
 
-static void tally_run(struct tally *t, const struct buffers *b, const struct before *kept, uint32_t result)
+// Which of its rules a map breaks.
+static void tally_bad_map(struct tally *t, const struct before *kept)
 {
-    static struct step steps[WORDS];
-    size_t n = 0, word = 0, place = 0;
-    if (result >= 256) {
-        t->causes[result / 256 % CAUSES]++;
-        t->kinds[SLICE_ENDS_80] += result == 0x500 && (b->at[CHAIN][b->length[CHAIN] - 4] & 0xC0) == 0x80;
-        return;
+    bool two = false, none = false, beyond = false;
+    for (uint32_t i = 0; i < MAX_ALTERNATES; i++) {
+        uint32_t entry = get32(kept->record + MAP_AT + 4 * i);
+        bool names = entry != 0 && entry != DEFECTIVE;
+        beyond = beyond || (entry != 0 && i >= kept->alternates);
+        none = none || (names && entry > kept->primaries);
+        two = two || (names && mapped_among(kept, entry - 1, 1) > 1);
     }
-    for (; place < result; n++) {
-        steps[n] = step_at(b, word, place);
-        word += steps[n].pieces;
-        place += steps[n].reached;
-        tally_step(t, b, kept, steps, n, place == result);
-    }
+    t->kinds[TWO_NAMES] += two && !none && !beyond;
+    t->kinds[NAMES_NONE] += none && !two && !beyond;
+    t->kinds[BEYOND] += beyond && !two && !none;
+}
+
+static void tally_refused_call(struct tally *t, const struct buffers *b, const struct before *kept, uint32_t result)
+{
+    size_t blocks = b->length[STORE] / BLOCK;
+    t->causes[result / 256 % CAUSES]++;
+    t->kinds[SLICE_ENDS_80] += result == 0x500 && (b->at[CHAIN][b->length[CHAIN] - 4] & 0xC0) == 0x80;
+    t->kinds[OVER_64] += result == 0x200 && b->alternates > MAX_ALTERNATES && b->alternates < blocks;
+    t->kinds[NO_PRIMARY] += result == 0x200 && b->alternates <= MAX_ALTERNATES && b->alternates == blocks && blocks > 0;
+    if (result == 0x800) tally_bad_map(t, kept);
+}
+
+static void tally_run(struct tally *t, const struct buffers *b, const struct before *kept, struct step *steps, size_t n, uint32_t result)
+{
+    for (size_t i = 0; i < n; i++) tally_step(t, b, kept, steps, i, i + 1 == n);
+    t->kinds[ALTERNATES_64] += b->alternates == MAX_ALTERNATES;
+    t->kinds[ONE_PRIMARY] += b->alternates > 0 && kept->primaries == 1;
+    t->kinds[WHOLE_WITH_ALTERNATES] += b->alternates > 0 && b->length[STORE] == (size_t)MAX_BLOCKS * BLOCK;
     t->kinds[ALL_WORDS] += result == WORDS;
     const uint8_t *was = kept->record, *is = b->at[RECORD];
     t->kinds[FULL_READ] += big_endian(was + 24, 3) < 0xFFFFFF && big_endian(is + 24, 3) == 0xFFFFFF;
@@ -273,18 +365,93 @@ static void tally_run(struct tally *t, const struct buffers *b, const struct bef
     t->kinds[WHOLE_STORE] += b->length[STORE] == (size_t)MAX_BLOCKS * BLOCK;
 }
 
+// ---- What holds whatever the second program says.
+
+static bool is_unchanged(const struct buffers *b, const struct before *kept, uint32_t place)
+{
+    return memcmp(b->at[STORE] + (size_t)BLOCK * place, kept->store + (size_t)BLOCK * place, BLOCK) == 0;
+}
+
+// What an entry may become: taken, if it was unused; defective, if it was not yet. An alternate that stayed unused, or was
+// defective, keeps its bytes; so does the primary of a block that was mapped, and the block is mapped still. No other entry names
+// the block that this one does.
+static bool entry_holds(const struct buffers *b, const struct before *kept, uint32_t i)
+{
+    const uint8_t *map = b->at[RECORD] + MAP_AT;
+    uint32_t was = get32(kept->record + MAP_AT + 4 * i), is = get32(map + 4 * i);
+    if (i >= kept->alternates) return is == 0;
+    if (is != 0 && is != DEFECTIVE && place_of(map, kept->primaries, is - 1) != kept->primaries + i) return false;
+    if (was == DEFECTIVE || is == 0) return is == was && is_unchanged(b, kept, kept->primaries + i);
+    if (was == 0) return true;
+    return (is == was || is == DEFECTIVE) && is_unchanged(b, kept, was - 1) && place_of(map, kept->primaries, was - 1) != was - 1;
+}
+
+// The blocks that no WRITE was for show what was in their place before: a format moves no data.
+static bool others_hold(const struct buffers *b, const struct before *kept, const struct step *steps, size_t n)
+{
+    static bool written[KEPT_BLOCKS];
+    memset(written, 0, kept->primaries);
+    for (size_t i = 0; i < n; i++)
+        if (steps[i].command == 0x41 && steps[i].cause == 0) memset(written + steps[i].block, 1, steps[i].count);
+    for (uint32_t block = 0; block < kept->primaries; block++)
+        if (!written[block] && !is_unchanged(b, kept, place_of(b->at[RECORD] + MAP_AT, kept->primaries, block)))
+            return printf("  block %lu is changed\n", (unsigned long)block), false;
+    return true;
+}
+
+// As many entries are not unused any more as there were formats.
+static bool formats_hold(const struct buffers *b, const struct before *kept, const struct step *steps, size_t n)
+{
+    size_t formats = 0, taken = 0;
+    for (size_t i = 0; i < n; i++) formats += steps[i].command == 0x43 && steps[i].cause == 0 && steps[i].operation == 4;
+    for (size_t i = MAP_AT; i < RECORD_SIZE; i += 4) taken += get32(kept->record + i) == 0 && get32(b->at[RECORD] + i) != 0;
+    if (formats != taken) printf("  %zu formats, %zu alternates taken\n", formats, taken);
+    return formats == taken;
+}
+
+static bool properties_hold(const struct buffers *b, const struct before *kept, const struct step *steps, size_t n)
+{
+    bool known = true;
+    if (!kept->has_store) return true;
+    for (uint32_t i = 0; i < MAX_ALTERNATES; i++)
+        if (!entry_holds(b, kept, i)) return printf("  entry %lu of the map\n", (unsigned long)i), false;
+    for (size_t i = 0; i < n; i++)
+        known = known && (steps[i].known || steps[i].cause != 0 || steps[i].command < 0x41 || steps[i].command > 0x43);
+    return !known || (others_hold(b, kept, steps, n) && formats_hold(b, kept, steps, n));
+}
+
+// The commands of a chain that was run. Tells how many.
+static size_t take_apart(const struct buffers *b, const struct before *kept, uint32_t result, struct step steps[WORDS])
+{
+    size_t n = 0, word = 0, place = 0;
+    for (; place < result; n++) {
+        steps[n] = step_at(b, word, place);
+        word += steps[n].pieces;
+        place += steps[n].reached;
+    }
+    find_blocks(steps, n, kept);
+    return n;
+}
+
+// Counts what a run was, and looks at what it has left.
+static bool look_at(struct tally *t, const struct buffers *b, const struct before *kept, uint32_t result)
+{
+    static struct step steps[WORDS];
+    if (result >= 256) return tally_refused_call(t, b, kept, result), true;
+    size_t n = take_apart(b, kept, result, steps);
+    tally_run(t, b, kept, steps, n, result);
+    return properties_hold(b, kept, steps, n);
+}
+
 // Runs both on one input. Prints the input if they differ.
 static bool agree(struct random *r, struct tally *t, uint32_t large)
 {
     struct buffers library, twin;
-    struct before kept;
+    static struct before kept;
     generate(r, &library, &twin, large);
     keep(&library, &kept);
     uint32_t wanted = call_second(&twin), result = call_library(&library);
-    if (result == wanted && buffers_equal(&library, &twin)) {
-        tally_run(t, &twin, &kept, wanted);
-        return true;
-    }
+    if (result == wanted && buffers_equal(&library, &twin) && look_at(t, &library, &kept, wanted)) return true;
     if (result != wanted) printf("  result %lu, not %lu\n", (unsigned long)result, (unsigned long)wanted);
     print_input(&twin, kept.record);
     for (size_t i = 0; i < WORDS && 8 * i + 8 <= twin.length[CHAIN]; i++) {
@@ -340,7 +507,8 @@ void test_random(uint32_t chains, uint64_t seed)
         struct random r = {seed ^ (uint64_t)(i + 1) * 0xD1342543DE82EF95u};
         same = agree(&r, &t, i % every == every - 1 ? i / every + 1 : 0);
         if (!same) printf("  chain %lu of seed %llu\n", (unsigned long)i, (unsigned long long)seed);
-        if (!same || i % BATCH == BATCH - 1 || i == chains - 1) check("random", "a batch agrees with the second program", same);
+        if (!same || i % BATCH == BATCH - 1 || i == chains - 1)
+            check("random", "a batch agrees with the second program, and keeps what it should", same);
         if (i % SHOWN == SHOWN - 1) fprintf(stderr, "host: %lu of %lu random chains\n", (unsigned long)i + 1, (unsigned long)chains);
     }
     printf("chains: %lu, commands reached: %lu\n", (unsigned long)i, t.reached);

@@ -11,7 +11,11 @@
 #define MAX_CLASS 262144u // the most that is lent here for the chains of a class, or for its results; whole guard pages
 #define MAX_BLOCKS 131072u
 #define MAX_STORAGE 16777216u
-#define RECORD_SIZE 34u
+#define RECORD_SIZE 290u
+#define MAP_AT 34u // in the record
+#define MAP_SIZE (RECORD_SIZE - MAP_AT)
+#define MAX_ALTERNATES 64u
+#define DEFECTIVE 0xFFFFFFFFu
 
 // ---- Checks (host_test.c). A failed check prints its part and name.
 void check(const char *part, const char *name, bool passed);
@@ -24,11 +28,12 @@ extern const char *const buffer_names[BUFFERS];
 struct buffers {
     uint8_t *at[BUFFERS];
     size_t length[BUFFERS];
+    uint32_t alternates; // of the store's blocks, so many at its end
 };
 
 void buffers_open(void);
 
-// Places the five buffers against the rear guards (at_end) or the front ones. Of length 0 they are not NULL.
+// Places the five buffers against the rear guards (at_end) or the front ones. Of length 0 they are not NULL. No alternates.
 void buffers_place(struct buffers *library, struct buffers *twin, const size_t length[BUFFERS], bool at_end);
 
 // Copies the library's buffers, and the bytes around them, to the twin.
@@ -36,6 +41,10 @@ void buffers_copy(const struct buffers *library, const struct buffers *twin);
 
 // Whether the buffers, and the bytes around them, are equal; prints the first byte that differs.
 bool buffers_equal(const struct buffers *library, const struct buffers *twin);
+
+// A number of four bytes, as an entry of the map is; big-endian.
+uint32_t get32(const uint8_t *from);
+void put32(uint8_t *to, uint32_t value);
 
 // ---- Calls. A call of the library that faults returns FAULT. A class has its chains in CHAIN, its results in ANSWERS.
 #define FAULT UINT32_MAX
@@ -46,7 +55,7 @@ uint32_t call_second_class(const struct buffers *b);
 uint32_t call_library_record(uint8_t *record, size_t length, uint8_t ready, uint8_t read_only);
 struct loughrella_walk;
 int call_next_result(struct loughrella_walk *at); // the header's walk; -1 where it faults
-void fill_rest(const struct buffers *b);          // all but the chain, so that a byte written anywhere shows; the unit is ready
+void fill_rest(const struct buffers *b);          // all but the chain, so that a byte written anywhere shows; ready, an empty map
 void print_input(const struct buffers *b, const uint8_t record_before[RECORD_SIZE]);
 
 // ---- Lines by hand (line.c). Bytes are text: hexadecimal, spaces anywhere between bytes, N*XX for a repeated byte.
@@ -57,15 +66,18 @@ struct change {
 
 struct line {
     const char *name, *why;
-    uint32_t blocks;                 // 0 stands for 8; block i is filled with byte i
-    const char *record;              // before; NULL: sense and counts zero, ready, not read-only
+    uint32_t blocks;                 // primaries; 0 stands for 8
+    uint32_t alternates;             // behind them; block i of the store is filled with byte i
+    const char *record;              // before, up to the map; NULL: sense and counts zero, ready, not read-only
+    const char *map;                 // before, zeros follow; NULL: empty
     const char *storage;             // before
-    struct change store_before[1];   // over the fill
+    struct change store_before[2];   // over the fill
     const char *chain;
     const char *answers;             // of the pieces reached, which gives the result; the rest stays
     const char *sense;               // after, zeros follow; NULL: all zero
     const char *log;                 // the eight bytes of counts after; NULL: all zero
-    struct change storage_after[3], store_after[2]; // all else stays
+    const char *map_after;           // zeros follow; NULL: as before
+    struct change storage_after[4], store_after[4]; // all else stays
 };
 
 size_t text_bytes(uint8_t *to, size_t room, const char *text); // to may be NULL: the length alone
@@ -92,6 +104,16 @@ uint64_t random_next(struct random *r);
 uint32_t random_below(struct random *r, uint32_t limit);
 void random_fill(struct random *r, uint8_t *to, size_t length);
 
+// A device as the author of chains believes it to be: what the map is made for, and what formats make of it.
+struct device {
+    uint32_t primaries, alternates;
+    uint8_t map[MAP_SIZE];
+};
+void generate_map(struct random *r, struct device *d);                      // a right one
+void damage_map(struct random *r, const struct device *d, uint8_t *map);    // and now mostly wrong, by a rule of cause 8
+uint32_t generate_alternates(struct random *r);                             // how many
+uint32_t place_of(const uint8_t *map, uint32_t primaries, uint32_t block);  // the block of the store that is shown as this one
+
 // Makes one input in both places. A large one (1, 2, .. by turns; 0 is a small one) takes its storage and store from
 // what lies in the areas, which is equal on both sides, and changes little of it.
 void generate(struct random *r, struct buffers *library, struct buffers *twin, uint32_t large);
@@ -100,14 +122,15 @@ void generate_large_contents(struct random *r);
 // The parts of an input: every byte random (but for storage and store, where large); the words of one chain from this place of
 // CHAIN on, with its parameters in storage behind those of the chains before; a record.
 void generate_fill(struct random *r, const struct buffers *library, const struct buffers *twin, bool large);
-void generate_chain(struct random *r, const struct buffers *library, const struct buffers *twin, size_t at, uint32_t words,
-                    uint32_t *parameters);
-void generate_record(struct random *r, uint8_t record[RECORD_SIZE], bool careful);
+void generate_chain(struct random *r, const struct buffers *library, const struct buffers *twin, struct device *d, size_t at,
+                    uint32_t words, uint32_t *parameters);
+void generate_record(struct random *r, uint8_t record[RECORD_SIZE], const struct device *d, bool careful);
 
 // ---- The parts.
 void test_lines(void);
 void test_causes(void);
 void test_pieces(void);
+void test_alternates(void);
 void test_calls(void);
 void test_random(uint32_t chains, uint64_t seed);
 void test_bounds(uint64_t seed);

@@ -1,28 +1,39 @@
-// The blocks of a device: how many there are, where some lie, and those of a READ and of a WRITE. They lie one after another, so
-// that a transfer is one part of the store. Nothing here is refused: a caller proves that the blocks are in the store, and the bytes
-// in the data area.
+// The blocks of a device: how many there are, and those of a READ and of a WRITE. `read_blocks` and `store_blocks` are the ways in. Where
+// no alternate is in use, blocks lie one after another, and a transfer is one part of the store. Else it goes by windows of blocks:
+// `places` tells where each lies, and those that lie in a row are one part. Nothing here is refused: a caller proves that the
+// blocks are the device's, and the bytes in the data area.
+use alternates::none_used;
+use alternates::places;
 use model::decoded::Area;
 use model::device::Device;
 use slices::clear;
+use slices::least;
 use storage::deliver;
 use storage::fetch;
+use storage::skip;
 ghost use mathlib.Core.Path.{_≡_};
-ghost use Prim.Native.Nat.{_+_, _*_, _≤_};
-ghost use lib.ListN.{length, take};
-ghost use Rattle.slices.specs.Parts.{pad};
-ghost use Rattle.model.specs.Lent.{blockCount, blockStart, blocksFrom, blocksInto};
+ghost use mathlib.Core.List.{List};
+ghost use Prim.Native.Nat.{ℕ, _+_, _*_, _≤_, _<_};
+ghost use lib.ListN.{length, getD, take};
+ghost use Rattle.slices.specs.Parts.{part, put, pad};
+ghost use Rattle.model.specs.Alternates.{mapSize};
+ghost use Rattle.model.specs.Lent.{storeBlocks, blockCount, blocksFrom, blocksInto};
 ghost use Rattle.model.specs.Pieces.{bytesIn, scattered};
 ghost use Rattle.model.specs.Decoded.{areaOf};
 ghost use Rattle.model.specs.Commands.{begun};
 ghost use Rattle.model.specs.Safe.{Usable, InArea};
-ghost use Rattle.blocks.specs.Places.{InStore, Movable};
+ghost use Rattle.storage.specs.Area.{Rest};
+ghost use Rattle.blocks.specs.Places.{Movable, RowMovable, AllMovable, PlacesOf, RowAt, noAlternate};
 
-// The blocks of a device.
+// The blocks whose places are asked for at a time.
+const WINDOW: usize = 128;
+
+// The blocks of a device: its primaries.
 pub fn block_count(d: Device, store: &[u8]) -> usize
-    requires { ⌜ Usable d ⌝ }
+    requires { ⌜ Usable d × (d .alternates ≤ storeBlocks d (now store)) ⌝ }
     ensures { λ r. ⌜ r ≡ blockCount d (now (store .entry)) ⌝ }
 {
-    store.len() / d.block
+    store.len() / d.block - d.alternates
 }
 
 // The blocks that n bytes begin.
@@ -33,28 +44,111 @@ pub fn begun(d: Device, n: usize) -> usize
     (n + (d.block - 1)) / d.block
 }
 
-// The bytes of some blocks in the store: from the first up to the one behind the last.
-struct Span {
-    start: usize,
-    end: usize,
-}
-
-// Where so many blocks from one on lie. Nobody else says.
-fn place(d: Device, store: &[u8], block: usize, blocks: usize) -> Span
-    requires { ⌜ InStore d (now store) block blocks ⌝ }
-    ensures { λ r. ⌜ (r .start ≡ blockStart d block) × (r .end ≡ r .start + blocks * d .block) × (r .end ≤ length (now (store .entry))) ⌝ }
+// No alternate of the device is in use.
+fn no_alternate(d: Device, map: &[u8]) -> bool
+    requires { ⌜ length (now map) ≡ mapSize ⌝ }
+    ensures { λ r. ⌜ r ≡ noAlternate d (now (map .entry)) ⌝ }
 {
-    let start = block * d.block;
-    Span {
-        start: start,
-        end: start + blocks * d.block,
+    if d.alternates == 0 {
+        return true;
     }
+    none_used(map)
 }
 
-// n bytes of these blocks go to the front of the data area.
-pub fn read_blocks(
+// How many places from the one at j on lie in a row.
+fn row_from(at: &[usize], j: usize) -> usize
+    requires { ⌜ (j < length (now at)) × (getD (now at) j 0 + length (now at) < 18446744073709551616) ⌝ }
+    ensures { λ r. ⌜ RowAt (now (at .entry)) j r ⌝ }
+{
+    let first = at[j];
+    let mut r = 1;
+    while r < at.len() - j {
+        if at[j + r] != first + r {
+            return r;
+        }
+        r += 1;
+    }
+    r
+}
+
+// n bytes of the blocks that lie in a row from a place on go to the front of the data area.
+fn read_row(
     d: Device,
     store: &[u8],
+    at: usize,
+    blocks: usize,
+    chain: &[u8],
+    a: Area,
+    main: &mut [u8],
+    n: usize,
+)
+    requires { ⌜ RowMovable d (now store) at blocks (now chain) a (now main) n ⌝ }
+    ensures { λ _. ⌜ now (main .exit)
+        ≡ scattered (areaOf (now (chain .entry)) a) (now (main .entry)) (take n (part (now (store .entry)) (at * d .block) (blocks * d .block))) ⌝ }
+{
+    let start = at * d.block;
+    let end = start + blocks * d.block;
+    deliver(chain, a, main, &store[start..end], n);
+}
+
+// n bytes of the blocks at these places go to the front of the data area, row by row. It returns what is left of the area.
+fn read_window(
+    d: Device,
+    store: &[u8],
+    at: &[usize],
+    chain: &[u8],
+    a: Area,
+    main: &mut [u8],
+    n: usize,
+) -> Area
+    requires { ⌜ AllMovable d (now store) (now at) (now chain) a (now main) n ⌝ }
+    ensures rest { λ r. ⌜ Rest (now (chain .entry)) a n r ⌝ }
+    ensures read { λ r. ⌜ ((map : List ℕ) (block : ℕ) → PlacesOf d map (now (store .entry)) block (now (at .entry)) → now (main .exit)
+        ≡ scattered (areaOf (now (chain .entry)) a) (now (main .entry)) (take n (blocksFrom d map (now (store .entry)) block (length (now (at .entry)))))) ⌝ }
+{
+    let mut into = a;
+    let mut j = 0;
+    let mut left = n;
+    while 0 < left {
+        let r = row_from(at, j);
+        let k = least(r * d.block, left);
+        read_row(d, store, at[j], r, chain, into, main, k);
+        into = skip(chain, into, k);
+        j += r;
+        left -= k;
+    }
+    into
+}
+
+// n bytes of the blocks from `block` on, as many as `at` has room for the places of, go to the front of the data area. It returns what is
+// left of the area.
+fn read_placed(
+    d: Device,
+    store: &[u8],
+    map: &[u8],
+    primaries: usize,
+    block: usize,
+    at: &mut [usize],
+    chain: &[u8],
+    a: Area,
+    main: &mut [u8],
+    n: usize,
+) -> Area
+    requires { ⌜ Movable d (now store) (now map) block (length (now at)) (now chain) a (now main) n × (primaries ≡ blockCount d (now store)) ⌝ }
+    ensures rest { λ r. ⌜ Rest (now (chain .entry)) a n r ⌝ }
+    ensures read { λ r. ⌜ now (main .exit)
+        ≡ scattered (areaOf (now (chain .entry)) a) (now (main .entry)) (take n (blocksFrom d (now (map .entry)) (now (store .entry)) block (length (now (at .entry))))) ⌝ }
+{
+    places(d.alternates, primaries, map, block, at);
+    read_window(d, store, at, chain, a, main, n)
+}
+
+// As `read_blocks`, whether or not an alternate is in use: window by window. READ IPL, which is rare, goes this way always; two callers
+// keep it a function of its own, and small what READ has inlined.
+pub fn read_mapped(
+    d: Device,
+    store: &[u8],
+    map: &[u8],
     block: usize,
     blocks: usize,
     chain: &[u8],
@@ -62,13 +156,56 @@ pub fn read_blocks(
     main: &mut [u8],
     n: usize,
 )
-    requires { ⌜ Movable d (now store) block blocks (now chain) a (now main) n ⌝ }
-    ensures { λ _. ⌜ now (main .exit) ≡ scattered (areaOf (now (chain .entry)) a) (now (main .entry)) (take n (blocksFrom d (now (store .entry)) block blocks)) ⌝ }
+    requires { ⌜ Movable d (now store) (now map) block blocks (now chain) a (now main) n ⌝ }
+    ensures { λ _. ⌜ now (main .exit)
+        ≡ scattered (areaOf (now (chain .entry)) a) (now (main .entry)) (take n (blocksFrom d (now (map .entry)) (now (store .entry)) block blocks)) ⌝ }
 {
-    let span = place(d, store, block, blocks);
-    let start = span.start;
-    let end = span.end;
-    deliver(chain, a, main, &store[start..end], n);
+    let primaries = block_count(d, store);
+    let mut into = a;
+    let mut here = block;
+    let mut left = n;
+    while 0 < left {
+        let w = least(WINDOW, block + blocks - here);
+        let k = least(w * d.block, left);
+        let mut at = [0usize; WINDOW];
+        into = read_placed(
+            d,
+            store,
+            map,
+            primaries,
+            here,
+            &mut at[..w],
+            chain,
+            into,
+            main,
+            k,
+        );
+        here += w;
+        left -= k;
+    }
+}
+
+// n bytes of these blocks go to the front of the data area.
+pub fn read_blocks(
+    d: Device,
+    store: &[u8],
+    map: &[u8],
+    block: usize,
+    blocks: usize,
+    chain: &[u8],
+    a: Area,
+    main: &mut [u8],
+    n: usize,
+)
+    requires { ⌜ Movable d (now store) (now map) block blocks (now chain) a (now main) n ⌝ }
+    ensures { λ _. ⌜ now (main .exit)
+        ≡ scattered (areaOf (now (chain .entry)) a) (now (main .entry)) (take n (blocksFrom d (now (map .entry)) (now (store .entry)) block blocks)) ⌝ }
+{
+    if no_alternate(d, map) {
+        read_row(d, store, block, blocks, chain, a, main, n);
+        return;
+    }
+    read_mapped(d, store, map, block, blocks, chain, a, main, n);
 }
 
 // n bytes of the data area, and then zeros, fill a part of the store.
@@ -80,10 +217,83 @@ fn fill(part: &mut [u8], chain: &[u8], a: Area, main: &[u8], n: usize)
     clear(&mut part[n..]);
 }
 
-// n bytes of the data area, and zeros where they run out, go to these blocks.
-pub fn store_blocks(
+// n bytes of the data area, and zeros where they run out, go to the blocks that lie in a row from a place on.
+fn store_row(
     d: Device,
     store: &mut [u8],
+    at: usize,
+    blocks: usize,
+    chain: &[u8],
+    a: Area,
+    main: &[u8],
+    n: usize,
+)
+    requires { ⌜ RowMovable d (now store) at blocks (now chain) a (now main) n ⌝ }
+    ensures { λ _. ⌜ now (store .exit)
+        ≡ put (now (store .entry)) (at * d .block) (pad (blocks * d .block) (take n (bytesIn (areaOf (now (chain .entry)) a) (now (main .entry))))) ⌝ }
+{
+    let start = at * d.block;
+    let end = start + blocks * d.block;
+    fill(&mut store[start..end], chain, a, main, n);
+}
+
+// n bytes of the data area, and zeros where they run out, go to the blocks at these places, row by row. It returns what is left of the area.
+fn store_window(
+    d: Device,
+    store: &mut [u8],
+    at: &[usize],
+    chain: &[u8],
+    a: Area,
+    main: &[u8],
+    n: usize,
+) -> Area
+    requires { ⌜ AllMovable d (now store) (now at) (now chain) a (now main) n ⌝ }
+    ensures rest { λ r. ⌜ Rest (now (chain .entry)) a n r ⌝ }
+    ensures stored { λ r. ⌜ ((map : List ℕ) (block : ℕ) → PlacesOf d map (now (store .entry)) block (now (at .entry)) → now (store .exit)
+        ≡ blocksInto d map (now (store .entry)) block (length (now (at .entry))) (take n (bytesIn (areaOf (now (chain .entry)) a) (now (main .entry))))) ⌝ }
+{
+    let mut from = a;
+    let mut j = 0;
+    let mut left = n;
+    while j < at.len() {
+        let r = row_from(at, j);
+        let k = least(r * d.block, left);
+        store_row(d, store, at[j], r, chain, from, main, k);
+        from = skip(chain, from, k);
+        j += r;
+        left -= k;
+    }
+    from
+}
+
+// n bytes of the data area, and zeros where they run out, go to the blocks from `block` on, as many as `at` has room for the places of. It
+// returns what is left of the area.
+fn store_placed(
+    d: Device,
+    store: &mut [u8],
+    map: &[u8],
+    primaries: usize,
+    block: usize,
+    at: &mut [usize],
+    chain: &[u8],
+    a: Area,
+    main: &[u8],
+    n: usize,
+) -> Area
+    requires { ⌜ Movable d (now store) (now map) block (length (now at)) (now chain) a (now main) n × (primaries ≡ blockCount d (now store)) ⌝ }
+    ensures rest { λ r. ⌜ Rest (now (chain .entry)) a n r ⌝ }
+    ensures stored { λ r. ⌜ now (store .exit)
+        ≡ blocksInto d (now (map .entry)) (now (store .entry)) block (length (now (at .entry))) (take n (bytesIn (areaOf (now (chain .entry)) a) (now (main .entry)))) ⌝ }
+{
+    places(d.alternates, primaries, map, block, at);
+    store_window(d, store, at, chain, a, main, n)
+}
+
+// As `store_blocks`, whether or not an alternate is in use: window by window.
+fn store_mapped(
+    d: Device,
+    store: &mut [u8],
+    map: &[u8],
     block: usize,
     blocks: usize,
     chain: &[u8],
@@ -91,11 +301,55 @@ pub fn store_blocks(
     main: &[u8],
     n: usize,
 )
-    requires { ⌜ Movable d (now store) block blocks (now chain) a (now main) n ⌝ }
-    ensures { λ _. ⌜ now (store .exit) ≡ blocksInto d (now (store .entry)) block blocks (take n (bytesIn (areaOf (now (chain .entry)) a) (now (main .entry)))) ⌝ }
+    requires { ⌜ Movable d (now store) (now map) block blocks (now chain) a (now main) n ⌝ }
+    ensures { λ _. ⌜ now (store .exit)
+        ≡ blocksInto d (now (map .entry)) (now (store .entry)) block blocks (take n (bytesIn (areaOf (now (chain .entry)) a) (now (main .entry)))) ⌝ }
 {
-    let span = place(d, store, block, blocks);
-    let start = span.start;
-    let end = span.end;
-    fill(&mut store[start..end], chain, a, main, n);
+    let primaries = block_count(d, store);
+    let end = block + blocks;
+    let mut from = a;
+    let mut here = block;
+    let mut left = n;
+    while here < end {
+        let w = least(WINDOW, end - here);
+        let k = least(w * d.block, left);
+        let mut at = [0usize; WINDOW];
+        from = store_placed(
+            d,
+            store,
+            map,
+            primaries,
+            here,
+            &mut at[..w],
+            chain,
+            from,
+            main,
+            k,
+        );
+        here += w;
+        left -= k;
+    }
+}
+
+// n bytes of the data area, and zeros where they run out, go to these blocks.
+pub fn store_blocks(
+    d: Device,
+    store: &mut [u8],
+    map: &[u8],
+    block: usize,
+    blocks: usize,
+    chain: &[u8],
+    a: Area,
+    main: &[u8],
+    n: usize,
+)
+    requires { ⌜ Movable d (now store) (now map) block blocks (now chain) a (now main) n ⌝ }
+    ensures { λ _. ⌜ now (store .exit)
+        ≡ blocksInto d (now (map .entry)) (now (store .entry)) block blocks (take n (bytesIn (areaOf (now (chain .entry)) a) (now (main .entry)))) ⌝ }
+{
+    if no_alternate(d, map) {
+        store_row(d, store, block, blocks, chain, a, main, n);
+        return;
+    }
+    store_mapped(d, store, map, block, blocks, chain, a, main, n);
 }

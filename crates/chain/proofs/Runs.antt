@@ -4,7 +4,7 @@
 --     left-known                   `Leaves` says all of what a command leaves
 --     turned                       one turn of the code is `next`, its answer to "go on" is `more`, and it leaves what the command does
 --     sound-same, callable-sound   the device and the state of a run
---     allowed                      a run that no cause refuses is the call
+--     called-left, allowed         a run that no cause refuses is the call
 use Prim.Native.Nat.{ℕ, zero, suc, _+_, _-_, _*_, _≤_, _<_}
 use mathlib.Core.Path.{_≡_, refl, sym, ap, _∙_}
 use mathlib.Core.Bool.{Bool, true, false, not, _&&_}
@@ -24,6 +24,8 @@ use Rattle.model.specs.declared.decoded.Decoded.{Decoded}
 use Rattle.model.specs.declared.device.Device.{Device}
 use Rattle.model.specs.declared.kind.Kind.{Kind}
 use Rattle.model.specs.declared.record.Record.{Record}
+use Rattle.model.specs.declared.record.UnitRecord.{UnitRecord}
+use Rattle.model.specs.Alternates.{mapSize}
 use Rattle.model.specs.State.{Done}
 use Rattle.model.specs.Log.{withCounts}
 use Rattle.model.specs.Names.{NO-OPERATION, chain-command}
@@ -43,15 +45,16 @@ use Rattle.model.proofs.Endings.{Callable}
 use Rattle.model.proofs.Fields.{verdict-small, step-blocks}
 use Rattle.model.proofs.Pieces.{ccwsIn, ccws-in, ccwsLeft, some-command}
 use Rattle.model.proofs.Refusals.{call-ran}
-use Rattle.model.proofs.Lengths.{Going, next-going, some-block}
+use Rattle.model.proofs.Lengths.{Going, next-going}
+use Rattle.model.proofs.Blocks.{mounted-same}
 use Rattle.model.proofs.Safety.{safe-start}
 use Rattle.model.proofs.Steps.{step-cause}
 use Rattle.unit_state.specs.declared.Left.{Left}
 use Rattle.sense_table.specs.Sensed.{senseShowing}
 use Rattle.unit_state.specs.declared.Running.{Running}
 use Rattle.log.specs.Counts.{counted}
-use Rattle.unit_state.specs.Standing.{started, unitOf, stateOf, stateLeft, Sound}
-use Rattle.unit_state.proofs.Units.{started-state, safe-any}
+use Rattle.unit_state.specs.Standing.{holding, started, unitOf, stateOf, stateLeft, unitLeft, Sound}
+use Rattle.unit_state.proofs.Units.{left-any, left-map, started-state, safe-any}
 use Rattle.endings.specs.declared.Answer.{Answer}
 use Rattle.endings.specs.declared.Ended.{Ended}
 use Rattle.endings.specs.Ending.{answerWords, wrongBy, Leaves, Ends}
@@ -117,41 +120,42 @@ module _ (dev : Device) (chain : List ℕ) where
   left-suc m n i s y e = rw e
 
   -- a command after which the chain goes on was accepted, and leaves the state that is carried
-  on-left : (u : Record) (i : ℕ) (s : Running) (y : System) (l : Left) → more dev chain i y ≡ true → l ≡ leftAt dev chain i s y
+  on-left : (u : UnitRecord) (i : ℕ) (s : Running) (y : System) (l : Left) → more dev chain i y ≡ true → l ≡ leftAt dev chain i s y
       → stateLeft u l ≡ stateOf u (l .state)
   unfolding more goesOn leftOf
   on-left u i s y l g f =
       let accepted : l .cause ≡ 0 = ap (λ (x : Left). x .cause) f ∙ eqb-true _ _ (both-true _ _ (both-true _ _ g .0) .0) in
       rw accepted
 
-  module _ (u : Record) (main₀ store₀ answers₀ : List ℕ) (n : ℕ) (s₀ : Running) where
+  module _ (u : Record) (main₀ store₀ map₀ answers₀ : List ℕ) (n : ℕ) (s₀ : Running) where
     abbrev lent : System
-    lent = systemOf u s₀ main₀ store₀ answers₀ 0
+    lent = systemOf (holding u map₀) s₀ main₀ store₀ answers₀ 0
 
     -- what the whole run gives
     abbrev pub Given : System → Left → Type 0
     Given y l = (y ≡ run dev chain n 0 lent) × (l ≡ leftFrom dev chain n 0 s₀ lent)
 
-    pub given-walks : {w : Walked} {main store answers : List ℕ} → n ≡ length (commandsIn chain) → Given (systemLeft u (w .left) main store answers (w .reached)) (w .left)
-        → Walks dev chain u s₀ lent w main store answers
+    pub given-walks : {w : Walked} {main store map answers : List ℕ} → n ≡ length (commandsIn chain) → Given (systemLeft (holding u map) (w .left) main store answers (w .reached)) (w .left)
+        → Walks dev chain (holding u map) s₀ lent w main store answers
     given-walks e g = record { after = rw e at (g .0); left = rw e at (g .1) }
 
     -- between two turns: the lengths are kept, the state is safe, command i begins with CCW `at`, from which on the chain ends, there is
     -- room for an answer to each CCW from there on, and what is still to run from here gives what the whole run does
-    pub record Underway (main store answers : List ℕ) (s : Running) (at reached : ℕ) : Type 0 where
+    pub record Underway (main store map answers : List ℕ) (s : Running) (at reached : ℕ) : Type 0 where
       pub command : ℕ
       pub count : n ≡ length (commandsIn chain)
       pub begins : Begins chain command at
       pub closes : Closes chain at
       pub main-length : length main ≡ length main₀
       pub store-length : length store ≡ length store₀
+      pub map-length : length map ≡ length map₀
       pub answers-length : length answers ≡ length answers₀
       pub room : (reached + (ccwsOf chain - at)) * answerSize ≤ length answers₀
-      pub safe : Safe (stateOf u s) (blockCount dev store)
-      pub same : Given (run dev chain (n - command) command (systemOf u s main store answers reached))
-          (leftFrom dev chain (n - command) command s (systemOf u s main store answers reached))
+      pub safe : Safe (stateOf (holding u map) s) (blockCount dev store)
+      pub same : Given (run dev chain (n - command) command (systemOf (holding u map) s main store answers reached))
+          (leftFrom dev chain (n - command) command s (systemOf (holding u map) s main store answers reached))
 
-    pub underway-start : n ≡ length (commandsIn chain) → Closes chain 0 → length chain ≤ length answers₀ → Safe (stateOf u s₀) (blockCount dev store₀) → Underway main₀ store₀ answers₀ s₀ 0 0
+    pub underway-start : n ≡ length (commandsIn chain) → Closes chain 0 → length chain ≤ length answers₀ → Safe (stateOf (holding u map₀) s₀) (blockCount dev store₀) → Underway main₀ store₀ map₀ answers₀ s₀ 0 0
     unfolding commandsIn
     underway-start e c l h = record {
       command = 0;
@@ -160,32 +164,33 @@ module _ (dev : Device) (chain : List ℕ) where
       closes = c;
       main-length = refl;
       store-length = refl;
+      map-length = refl;
       answers-length = refl;
       room = omega (arith, l);
       safe = h;
       same = (rw sub-zero refl, rw sub-zero refl);
     }
 
-    module _ (main store answers : List ℕ) (s : Running) (at reached : ℕ) (w : Underway main store answers s at reached) where
+    module _ (main store map answers : List ℕ) (s : Running) (at reached : ℕ) (w : Underway main store map answers s at reached) where
       abbrev here : System
-      here = systemOf u s main store answers reached
+      here = systemOf (holding u map) s main store answers reached
 
       -- a CCW of the chain begins a command
       underway-more : w .command < n
       underway-more = rw (w .count) (begins-some chain (w .command) at (w .begins) (closes-some chain at (w .closes)))
 
       -- a turn that goes on leaves the run underway
-      pub underway-next : (main′ store′ answers′ : List ℕ) (t : Turn) → 1 ≤ blockCount dev store → Turned dev chain u s here at (w .command) t main′ store′ answers′ → more dev chain (w .command) here ≡ true
-          → Underway main′ store′ answers′ (t .left .state) (t .end) (t .reached)
-      underway-next main′ store′ answers′ t b p g =
+      pub underway-next : (main′ store′ map′ answers′ : List ℕ) (t : Turn) → 1 ≤ blockCount dev store → length map′ ≡ length map → Turned dev chain (holding u map′) s here at (w .command) t main′ store′ answers′ → more dev chain (w .command) here ≡ true
+          → Underway main′ store′ map′ answers′ (t .left .state) (t .end) (t .reached)
+      underway-next main′ store′ map′ answers′ t b same-map p g =
           let i : ℕ = w .command in
           let more : i < n = underway-more in
-          let e : systemOf u (t .left .state) main′ store′ answers′ (t .reached) ≡ next dev chain i here = rw (on-left u i s here (t .left) g (p .left)) at (p .after) in
+          let e : systemOf (holding u map′) (t .left .state) main′ store′ answers′ (t .reached) ≡ next dev chain i here = rw (on-left (holding u map′) i s here (t .left) g (p .left)) at (p .after) in
           let long : length answers ≡ length answers₀ = w .answers-length in
           let left : ccwsLeft chain i ≡ ccwsOf chain - at = begins-left chain i at (w .begins) in
           let behind : ccwsLeft chain (i + 1) ≡ ccwsOf chain - t .end = begins-left chain (i + 1) (t .end) (p .behind) in
           let k = next-going dev chain here b i here (omega (arith, more, w .count)) (omega (arith, long, left, w .room)) (record { main-length = refl; store-length = refl; answers-length = refl; safe = w .safe }) in
-          let m : Going dev here (systemOf u (t .left .state) main′ store′ answers′ (t .reached)) = rw e (k .0) in
+          let m : Going dev here (systemOf (holding u map′) (t .left .state) main′ store′ answers′ (t .reached)) = rw e (k .0) in
           let given : t .reached ≡ next dev chain i here .reached = ap (λ (y : System). y .reached) e in
           record {
             command = i + 1;
@@ -194,6 +199,7 @@ module _ (dev : Device) (chain : List ℕ) where
             closes = p .closes (p .go ∙ g);
             main-length = m .main-length ∙ w .main-length;
             store-length = m .store-length ∙ w .store-length;
+            map-length = same-map ∙ w .map-length;
             answers-length = m .answers-length ∙ w .answers-length;
             room = omega (arith, k .1, given, behind, long);
             safe = m .safe;
@@ -214,7 +220,7 @@ module _ (dev : Device) (chain : List ℕ) where
           )
 
 -- `Leaves` says all of what is left
-pub left-known : (u : Record) (c : Command) (s : Running) (l : Left) (o : Out) → Leaves u c s l o → l ≡ leftOf c s o
+pub left-known : (u : UnitRecord) (c : Command) (s : Running) (l : Left) (o : Out) → Leaves u c s l o → l ≡ leftOf c s o
 unfolding leftOf pick stateOf unitOf counted withCounts
 left-known u c s l o p =
     let state = go (o .done .cause =? 0) refl in
@@ -244,25 +250,25 @@ unfolding answersGiven answersOf filled residual
 given-answers chain c d last moved wrong e f g hr hw hb =
     rw (e, f, g) (ap (λ (l : List ℕ). zeros (filled (commandOf chain c) d * answerSize) ++ l) (answer-bytes (commandOf chain c) d (rw (← f) hr) hw hb))
 
-pub front-small : {u : Record} {c : Command} {s : Running} {r : Ended} {main store : List ℕ} {o : Out} → Ends u c s r main store o → r .answer .front < 4294967296
+pub front-small : {u : UnitRecord} {c : Command} {s : Running} {r : Ended} {main store : List ℕ} {o : Out} → Ends u c s r main store o → r .answer .front < 4294967296
 front-small {o = o} f =
     let k : Kind = kindOf (o .done .cause) in
     rw (f .answer) (omega (arith, status-byte k, channel-byte k false))
 
-module _ (dev : Device) (chain : List ℕ) (at i : ℕ) (c : Decoded) (u : Record) (s : Running) (main store answers main′ store′ : List ℕ) (r : Ended) (reached : ℕ)
-    (told : Decodes chain c) (e : commandAt chain i ≡ commandOf chain c) (f : Ends u (commandOf chain c) s r main′ store′ (step dev (commandOf chain c) (stateOf u s) main store)) where
+module _ (dev : Device) (chain : List ℕ) (at i : ℕ) (c : Decoded) (u : Record) (s : Running) (main store map answers main′ store′ map′ : List ℕ) (r : Ended) (reached : ℕ)
+    (told : Decodes chain c) (e : commandAt chain i ≡ commandOf chain c) (f : Ends (holding u map′) (commandOf chain c) s r main′ store′ (step dev (commandOf chain c) (stateOf (holding u map) s) main store)) where
   abbrev found : System
-  found = systemOf u s main store answers reached
+  found = systemOf (holding u map) s main store answers reached
 
   turned-system : (answers′ : List ℕ) (given : ℕ) → answers′ ≡ put answers (reached * answerSize) (answersGiven chain (c .area) (r .answer) (r .moved) (r .wrong))
       → given ≡ reached + (spreadOver chain (c .area) (r .moved) .filled + 1) → spreadOver chain (c .area) (r .moved) .residual < 65536 → 1 ≤ dev .block → s .located .blocks < 65536
-      → systemLeft u (r .left) main′ store′ answers′ given ≡ next dev chain i found
+      → systemLeft (holding u map′) (r .left) main′ store′ answers′ given ≡ next dev chain i found
   unfolding next stepAt answered filled stateOf
   turned-system answers′ given h g m b l =
       let k : Command = commandOf chain c in
-      let o : Out = step dev k (stateOf u s) main store in
-      let small : o .done .cause < 256 = rw (step-cause dev k (stateOf u s) main store) (verdict-small dev k (stateOf u s) main store) in
-      let few : o .done .blocks < 65536 = step-blocks dev k (stateOf u s) main store b l in
+      let o : Out = step dev k (stateOf (holding u map) s) main store in
+      let small : o .done .cause < 256 = rw (step-cause dev k (stateOf (holding u map) s) main store) (verdict-small dev k (stateOf (holding u map) s) main store) in
+      let few : o .done .blocks < 65536 = step-blocks dev k (stateOf (holding u map) s) main store b l in
       let answer : answersGiven chain (c .area) (r .answer) (r .moved) (r .wrong) ≡ answersOf k (o .done) = given-answers chain c (o .done) _ _ _ (f .answer) (f .moved) (f .wrong) m small few in
       rw (e, h, g, answer, f .moved, f .left .state, f .main-same, f .store-same)
 
@@ -270,12 +276,12 @@ module _ (dev : Device) (chain : List ℕ) (at i : ℕ) (c : Decoded) (u : Recor
   unfolding more stepAt goesOn channelStatus flag
   turned-go b g =
       let k : Command = commandOf chain c in
-      let d : Done = step dev k (stateOf u s) main store .done in
+      let d : Done = step dev k (stateOf (holding u map) s) main store .done in
       rw e (g ∙ rw (f .left .cause, f .wrong, told .flags) (sym (go-by-kind (d .cause =? 0) (oneOf (10 ∷ 11 ∷ 12 ∷ 13 ∷ []) (d .cause)) (wrongLength k (d .can)) (flag (final k) chain-command))))
 
   turned-left : r .left ≡ leftAt dev chain i s found
   unfolding stepAt
-  turned-left = rw e (left-known u (commandOf chain c) s (r .left) _ (f .left))
+  turned-left = rw e (left-known (holding u map′) (commandOf chain c) s (r .left) _ (f .left))
 
   -- it goes on after a last piece with flag 40
   turned-on : (b : Bool) → b ≡ (r .left .cause =? 0 && not (r .wrong) && bit (c .flags .0) chain-command) → b ≡ true → bit (c .flags .0) chain-command ≡ true
@@ -285,7 +291,7 @@ module _ (dev : Device) (chain : List ℕ) (at i : ℕ) (c : Decoded) (u : Recor
       → given ≡ reached + (spreadOver chain (c .area) (r .moved) .filled + 1) → spreadOver chain (c .area) (r .moved) .residual < 65536 → Usable dev → s .located .blocks < 65536
       → b ≡ (r .left .cause =? 0 && not (r .wrong) && bit (c .flags .0) chain-command) → Begins chain (i + 1) (c .area .end) → at < c .area .end
       → (bit (c .flags .0) chain-command ≡ true → Closes chain (c .area .end))
-      → Turned dev chain u s found at i (record { left = r .left; end = c .area .end; reached = given; go = b }) main′ store′ answers′
+      → Turned dev chain (holding u map′) s found at i (record { left = r .left; end = c .area .end; reached = given; go = b }) main′ store′ answers′
   turned answers′ given b h g m d l k y z o = record {
     after = turned-system answers′ given h g m (d .some-size) l;
     go = turned-go b k;
@@ -295,26 +301,33 @@ module _ (dev : Device) (chain : List ℕ) (at i : ℕ) (c : Decoded) (u : Recor
     closes = λ e. o (turned-on b k e);
   }
 
--- a store that kept its length is as good
-pub sound-same : (dev : Device) (u : Record) (s t : Running) (store store′ : List ℕ) → length store′ ≡ length store → Sound dev s store → Safe (stateOf u t) (blockCount dev store′) → Sound dev t store′
-unfolding blockCount
-sound-same dev u s t store store′ e r h =
-    record { device = r .device; some-block = rw e (r .some-block); few-blocks = rw e (r .few-blocks); safe = λ v. safe-any v t u _ h }
-
--- what the call's tests leave known of the device
-pub callable-sound : (dev : Device) (chain main store answers : List ℕ) (u : Record) → Usable dev → Callable dev chain main store answers → Sound dev (started u) store
-callable-sound dev chain main store answers u usable k =
+-- a store and a map that kept their length are as good
+pub sound-same : (dev : Device) (u : UnitRecord) (s t : Running) (store store′ map map′ : List ℕ) → length store′ ≡ length store → length map′ ≡ length map → Sound dev s store map → Safe (stateOf u t) (blockCount dev store′)
+    → Sound dev t store′ map′
+sound-same dev u s t store store′ map map′ e f r h =
+    let m = mounted-same dev store map (r .mounted) store′ (sym e) in
     record {
-      device = usable;
-      some-block = some-block dev store (k .stored) (k .even);
-      few-blocks = k .held;
-      safe = λ v. safe-any v (started u) u _ (rw (started-state u) (safe-start u _));
+      mounted = record { device = m .device; some-block = m .some-block; few-blocks = m .few-blocks; few-alternates = m .few-alternates; whole-map = f ∙ m .whole-map };
+      safe = λ v. safe-any v t u _ h;
     }
 
+-- what the call's tests leave known of the device
+pub callable-sound : (dev : Device) (chain main store map answers : List ℕ) (u : Record) → Usable dev → length map ≡ mapSize → Callable dev chain main store map answers → Sound dev (started u) store map
+callable-sound dev chain main store map answers u usable long k =
+    record {
+      mounted = record { device = usable; some-block = k .some-block; few-blocks = k .held; few-alternates = k .few-alternates; whole-map = long };
+      safe = λ v. safe-any v (started u) (holding u map) _ (rw (started-state (holding u map)) (safe-start u map _));
+    }
+
+-- what a call gives, of a run that was not refused
+pub called-left : (u : Record) (l : Left) (main store map answers : List ℕ) (reached : ℕ)
+    → called 0 (systemLeft (holding u map) l main store answers reached) ≡ record { cause = 0; reached = reached; unit = unitLeft u l; map = map; main = main; store = store; answers = answers }
+called-left u l main store map answers reached = λ i. record { cause = 0; reached = reached; unit = left-any u map l i; map = left-map u map l i; main = main; store = store; answers = answers }
+
 -- and the run that they allow is the call
-pub allowed : (dev : Device) (chain main store answers main′ store′ answers′ : List ℕ) (u : Record) (t : Running) (w : Walked) → t ≡ started u → firstOf (callCauses dev chain main store answers) ≡ 0
-    → Walks dev chain u t (systemOf u t main store answers 0) w main′ store′ answers′ → Allowed dev u chain main store answers w main′ store′ answers′
-allowed dev chain main store answers main′ store′ answers′ u t w e n f = record {
-  after = ap (called 0) (rw (e, started-state u) at (f .after)) ∙ sym (call-ran dev chain main store u answers n);
-  left = rw (e, started-state u) at (f .left);
+pub allowed : (dev : Device) (chain main store map answers main′ store′ map′ answers′ : List ℕ) (u : Record) (t : Running) (w : Walked) → t ≡ started u → firstOf (callCauses dev chain main store map answers) ≡ 0
+    → Walks dev chain (holding u map′) t (systemOf (holding u map) t main store answers 0) w main′ store′ answers′ → Allowed dev u chain main store map answers w main′ store′ map′ answers′
+allowed dev chain main store map answers main′ store′ map′ answers′ u t w e n f = record {
+  after = ap (called 0) (rw (e, started-state (holding u map)) at (f .after)) ∙ sym (call-ran dev chain main store u map answers n);
+  left = rw (e, started-state (holding u map)) at (f .left);
 }

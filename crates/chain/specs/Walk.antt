@@ -18,6 +18,7 @@ use lib.ListN.{length, drop}
 use Rattle.numbers.specs.Choice.{_=?_, pick}
 use Rattle.model.specs.declared.device.Device.{Device}
 use Rattle.model.specs.declared.record.Record.{Record}
+use Rattle.model.specs.declared.record.UnitRecord.{UnitRecord}
 use Rattle.model.specs.State.{State}
 use Rattle.model.specs.Names.{NO-OPERATION}
 use Rattle.model.specs.Lent.{ccwSize}
@@ -32,7 +33,7 @@ use Rattle.log.specs.Counts.{countsOf}
 use Rattle.sense_table.specs.Sensed.{senseShowing, noSense}
 use Rattle.unit_state.specs.declared.Running.{Running}
 use Rattle.unit_state.specs.declared.Left.{Left}
-use Rattle.unit_state.specs.Standing.{started, stateOf, stateLeft, Sound}
+use Rattle.unit_state.specs.Standing.{holding, started, stateOf, stateLeft, Sound}
 use Rattle.chain.specs.declared.run.Turn.{Turn}
 use Rattle.chain.specs.declared.run.Walked.{Walked}
 use Rattle.chain.specs.declared.call.Returned.{Returned}
@@ -69,15 +70,16 @@ module _ (dev : Device) (chain : List ℕ) where
   abbrev pub leftBy : Running → System → Left
   leftBy s y = leftFrom (length (commandsIn chain)) 0 s y
 
-module _ (u : Record) where
+-- u is the record that the chain found, with the map as it is then
+module _ (u : UnitRecord) where
   abbrev pub systemOf : Running → List ℕ → List ℕ → List ℕ → ℕ → System
   systemOf s = system (stateOf u s)
 
   abbrev pub systemLeft : Left → List ℕ → List ℕ → List ℕ → ℕ → System
   systemLeft l = system (stateLeft u l)
 
-abbrev pub leftCall : Device → List ℕ → List ℕ → List ℕ → Record → List ℕ → Left
-leftCall dev chain main store u answers = leftBy dev chain (started u) (system (start u) main store answers 0)
+abbrev pub leftCall : Device → List ℕ → List ℕ → List ℕ → UnitRecord → List ℕ → Left
+leftCall dev chain main store u answers = leftBy dev chain (started (u .unit)) (system (start (u .unit) (u .map)) main store answers 0)
 
 -- the CCWs of a chain
 abbrev pub ccwsOf : List ℕ → ℕ
@@ -88,15 +90,16 @@ abbrev pub Begins : List ℕ → ℕ → ℕ → Type 0
 Begins chain i at = drop i (commandsIn chain) ≡ commandsFrom chain (ccwsOf chain - at) at
 
 -- `reached` answers were given before
-pub record InRun (dev : Device) (chain : List ℕ) (at reached : ℕ) (s : Running) (store answers : List ℕ) : Type 0 where
-  pub sound : Sound dev s store
+pub record InRun (dev : Device) (chain : List ℕ) (at reached : ℕ) (s : Running) (store map answers : List ℕ) : Type 0 where
+  pub sound : Sound dev s store map
   pub short : length chain ≤ 256
   pub closes : Closes chain at
   pub room : (reached + (ccwsOf chain - at)) * answerSize ≤ length answers
 
--- in a chain that found record u, of a turn or a run that found s carried, which stands for system y, and leaves these buffers
+-- in a chain that found record u, which has the map that is left, of a turn or a run that found s carried, which stands for system y, and
+-- leaves these buffers
 
-pub record Turned (dev : Device) (chain : List ℕ) (u : Record) (s : Running) (y : System) (at i : ℕ) (t : Turn) (main store answers : List ℕ) : Type 0 where
+pub record Turned (dev : Device) (chain : List ℕ) (u : UnitRecord) (s : Running) (y : System) (at i : ℕ) (t : Turn) (main store answers : List ℕ) : Type 0 where
   pub after : systemLeft u (t .left) main store answers (t .reached) ≡ next dev chain i y
   pub go : t .go ≡ more dev chain i y
   pub left : t .left ≡ leftAt dev chain i s y
@@ -104,14 +107,14 @@ pub record Turned (dev : Device) (chain : List ℕ) (u : Record) (s : Running) (
   pub on : at < t .end
   pub closes : t .go ≡ true → Closes chain (t .end)
 
-pub record Walks (dev : Device) (chain : List ℕ) (u : Record) (s : Running) (y : System) (w : Walked) (main store answers : List ℕ) : Type 0 where
+pub record Walks (dev : Device) (chain : List ℕ) (u : UnitRecord) (s : Running) (y : System) (w : Walked) (main store answers : List ℕ) : Type 0 where
   pub after : systemLeft u (w .left) main store answers (w .reached) ≡ runOf dev chain y
   pub left : w .left ≡ leftBy dev chain s y
 
--- of a call that was lent main storage, store and answers, and leaves them primed
-pub record Allowed (dev : Device) (u : Record) (chain main store answers : List ℕ) (w : Walked) (main′ store′ answers′ : List ℕ) : Type 0 where
-  pub after : called 0 (systemLeft u (w .left) main′ store′ answers′ (w .reached)) ≡ callOf dev chain main store u answers
-  pub left : w .left ≡ leftCall dev chain main store u answers
+-- of a call that was lent a record's map, main storage, store and answers, and leaves them primed
+pub record Allowed (dev : Device) (u : Record) (chain main store map answers : List ℕ) (w : Walked) (main′ store′ map′ answers′ : List ℕ) : Type 0 where
+  pub after : called 0 (systemLeft (holding u map′) (w .left) main′ store′ answers′ (w .reached)) ≡ callOf dev chain main store u map answers
+  pub left : w .left ≡ leftCall dev chain main store (holding u map) answers
 
-abbrev pub calledWith : Returned → List ℕ → List ℕ → List ℕ → Called
-calledWith r main store answers = record { cause = r .cause; reached = r .reached; unit = r .unit; main = main; store = store; answers = answers }
+abbrev pub calledWith : Returned → List ℕ → List ℕ → List ℕ → List ℕ → Called
+calledWith r main store map answers = record { cause = r .cause; reached = r .reached; unit = r .unit; map = map; main = main; store = store; answers = answers }

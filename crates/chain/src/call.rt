@@ -1,4 +1,4 @@
-// The call: refused as a whole by the first of causes 1 to 5 that holds, or the chain run from a fresh state.
+// The call: refused as a whole by the first of causes 1 to 5 and 8 that holds, or the chain run from a fresh state.
 use crate::causes::call_cause;
 use crate::run::Walked;
 use crate::run::run_chain;
@@ -8,7 +8,9 @@ use record::record_left;
 use unit_state::start;
 ghost use mathlib.Core.Path.{_≡_};
 ghost use Prim.Native.Nat.{_≤_};
+ghost use lib.ListN.{length};
 ghost use Rattle.model.specs.Rules.{firstOf};
+ghost use Rattle.model.specs.Alternates.{mapSize};
 ghost use Rattle.model.specs.Causes.{callCauses};
 ghost use Rattle.model.specs.Chain.{callOf};
 ghost use Rattle.model.specs.Host.{resultOf};
@@ -22,13 +24,14 @@ pub fn run_allowed(
     chain: &[u8],
     main: &mut [u8],
     store: &mut [u8],
+    map: &mut [u8],
     answers: &mut [u8],
 ) -> Walked
-    requires { ⌜ Usable d × (firstOf (callCauses d (now chain) (now main) (now store) (now answers)) ≡ 0) ⌝ }
-    ensures { λ r. ⌜ Allowed d u (now (chain .entry)) (now (main .entry)) (now (store .entry)) (now (answers .entry))
-        r (now (main .exit)) (now (store .exit)) (now (answers .exit)) ⌝ }
+    requires { ⌜ Usable d × (length (now map) ≡ mapSize) × (firstOf (callCauses d (now chain) (now main) (now store) (now map) (now answers)) ≡ 0) ⌝ }
+    ensures { λ r. ⌜ Allowed d u (now (chain .entry)) (now (main .entry)) (now (store .entry)) (now (map .entry)) (now (answers .entry))
+        r (now (main .exit)) (now (store .exit)) (now (map .exit)) (now (answers .exit)) ⌝ }
 {
-    run_chain(d, chain, u, start(u), main, store, answers)
+    run_chain(d, chain, u, start(u), main, store, map, answers)
 }
 
 // What a call gives by value.
@@ -44,13 +47,14 @@ pub fn call(
     chain: &[u8],
     main: &mut [u8],
     store: &mut [u8],
+    map: &mut [u8],
     answers: &mut [u8],
 ) -> Returned
-    requires { ⌜ Usable d ⌝ }
-    ensures { λ r. ⌜ calledWith r (now (main .exit)) (now (store .exit)) (now (answers .exit))
-        ≡ callOf d (now (chain .entry)) (now (main .entry)) (now (store .entry)) u (now (answers .entry)) ⌝ }
+    requires { ⌜ Usable d × (length (now map) ≡ mapSize) ⌝ }
+    ensures { λ r. ⌜ calledWith r (now (main .exit)) (now (store .exit)) (now (map .exit)) (now (answers .exit))
+        ≡ callOf d (now (chain .entry)) (now (main .entry)) (now (store .entry)) u (now (map .entry)) (now (answers .entry)) ⌝ }
 {
-    let cause = call_cause(d, chain, main, store, answers);
+    let cause = call_cause(d, chain, main, store, map, answers);
     if cause != 0 {
         return Returned {
             cause: cause,
@@ -58,7 +62,7 @@ pub fn call(
             unit: u,
         };
     }
-    let walked = run_allowed(d, u, chain, main, store, answers);
+    let walked = run_allowed(d, u, chain, main, store, map, answers);
     let l = walked.left;
     Returned {
         cause: 0,

@@ -1,11 +1,15 @@
-// The causes that refuse a call before any command: 1 to 5. The way in is `call_cause`, which is 0 where the chain may run.
+// The causes that refuse a call before any command: 1 to 5 (`lent_cause`) and 8 (`map_cause`). The way in is `call_cause`, which is 0 where
+// the chain may run; a call from C has cause 6 between the two.
 ghost use mathlib.Core.Path.{_≡_};
-ghost use Prim.Native.Nat.{_/_};
+ghost use Prim.Native.Nat.{_/_, _≤_};
 ghost use lib.ListN.{length};
 ghost use Rattle.model.specs.Rules.{firstOf};
-ghost use Rattle.model.specs.Lent.{ccwSize};
-ghost use Rattle.model.specs.Causes.{followed, allChained, badChain, badStore, callCauses};
+ghost use Rattle.model.specs.Alternates.{mapSize};
+ghost use Rattle.model.specs.Lent.{ccwSize, storeBlocks};
+ghost use Rattle.model.specs.Causes.{followed, allChained, badChain, badStore, lentCauses, mapCauses, callCauses};
 ghost use Rattle.model.specs.Safe.{Usable};
+use alternates::map_wrong;
+use blocks::block_count;
 use channel::ccw::piece_at;
 use model::ccw::Piece;
 use model::device::Device;
@@ -24,7 +28,7 @@ fn chain_wrong(len: usize) -> bool
     len % sizes::CCW != 0
 }
 
-// No block, a part of one, or more than 131,072.
+// No block, a part of one, or more than 131,072; more than 64 alternates, or no primary.
 fn store_wrong(d: Device, store: &[u8]) -> bool
     requires { ⌜ Usable d ⌝ }
     ensures { λ r. ⌜ r ≡ badStore d (now (store .entry)) ⌝ }
@@ -36,7 +40,14 @@ fn store_wrong(d: Device, store: &[u8]) -> bool
     if len % d.block != 0 {
         return true;
     }
-    sizes::BLOCKS_LIMIT < len / d.block
+    let blocks = len / d.block;
+    if sizes::BLOCKS_LIMIT < blocks {
+        return true;
+    }
+    if sizes::ENTRIES < d.alternates {
+        return true;
+    }
+    blocks <= d.alternates
 }
 
 // Another CCW follows: one more piece of the command, or another command.
@@ -66,10 +77,10 @@ fn all_chained(chain: &[u8]) -> bool
     true
 }
 
-// The lowest cause that holds of the call, or 0.
-pub fn call_cause(d: Device, chain: &[u8], main: &[u8], store: &[u8], answers: &[u8]) -> u8
+// The first of causes 1 to 5 that holds of the call, or 0.
+pub fn lent_cause(d: Device, chain: &[u8], main: &[u8], store: &[u8], answers: &[u8]) -> u8
     requires { ⌜ Usable d ⌝ }
-    ensures { λ r. ⌜ r ≡ firstOf (callCauses d (now (chain .entry)) (now (main .entry)) (now (store .entry)) (now (answers .entry))) ⌝ }
+    ensures { λ r. ⌜ r ≡ firstOf (lentCauses d (now (chain .entry)) (now (main .entry)) (now (store .entry)) (now (answers .entry))) ⌝ }
 {
     if chain_wrong(chain.len()) {
         return 1;
@@ -87,4 +98,34 @@ pub fn call_cause(d: Device, chain: &[u8], main: &[u8], store: &[u8], answers: &
         return 5;
     }
     0
+}
+
+// 8 where the map is not right for this device, or 0.
+pub fn map_cause(d: Device, store: &[u8], map: &[u8]) -> u8
+    requires { ⌜ Usable d × (d .alternates ≤ storeBlocks d (now store)) × (length (now map) ≡ mapSize) ⌝ }
+    ensures { λ r. ⌜ r ≡ firstOf (mapCauses d (now (store .entry)) (now (map .entry))) ⌝ }
+{
+    if map_wrong(d.alternates, block_count(d, store), map) {
+        return 8;
+    }
+    0
+}
+
+// The first of causes 1 to 5 and 8 that holds of the call, or 0.
+pub fn call_cause(
+    d: Device,
+    chain: &[u8],
+    main: &[u8],
+    store: &[u8],
+    map: &[u8],
+    answers: &[u8],
+) -> u8
+    requires { ⌜ Usable d × (length (now map) ≡ mapSize) ⌝ }
+    ensures { λ r. ⌜ r ≡ firstOf (callCauses d (now (chain .entry)) (now (main .entry)) (now (store .entry)) (now (map .entry)) (now (answers .entry))) ⌝ }
+{
+    let cause = lent_cause(d, chain, main, store, answers);
+    if cause != 0 {
+        return cause;
+    }
+    map_cause(d, store, map)
 }

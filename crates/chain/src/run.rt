@@ -15,7 +15,7 @@ ghost use Rattle.numbers.specs.Bits.{bit};
 ghost use Rattle.numbers.specs.Choice.{_=?_};
 ghost use Rattle.model.specs.Names.{chain-command};
 ghost use Rattle.model.specs.Safe.{Closes};
-ghost use Rattle.unit_state.specs.Standing.{Sound};
+ghost use Rattle.unit_state.specs.Standing.{holding, Sound};
 ghost use Rattle.chain.specs.Walk.{systemOf, Begins, InRun, Turned, Walks};
 
 // "A refusal ends the chain", a wrong length ends it, and so does a last piece without flag 40.
@@ -49,14 +49,15 @@ fn one_turn(
     s: Running,
     main: &mut [u8],
     store: &mut [u8],
+    map: &mut [u8],
     answers: &mut [u8],
 ) -> Turn
-    requires { ⌜ InRun d (now chain) at reached s (now store) (now answers) ⌝ }
-    ensures { λ r. ⌜ ((i : ℕ) → Begins (now (chain .entry)) i at → Turned d (now (chain .entry)) u s (systemOf u s (now (main .entry)) (now (store .entry)) (now (answers .entry)) reached)
+    requires { ⌜ InRun d (now chain) at reached s (now store) (now map) (now answers) ⌝ }
+    ensures { λ r. ⌜ ((i : ℕ) → Begins (now (chain .entry)) i at → Turned d (now (chain .entry)) (holding u (now (map .exit))) s (systemOf (holding u (now (map .entry))) s (now (main .entry)) (now (store .entry)) (now (answers .entry)) reached)
         at i r (now (main .exit)) (now (store .exit)) (now (answers .exit))) ⌝ }
 {
     let c = command_at(chain, at);
-    let e = step(d, u, chain, c, s, main, store);
+    let e = step(d, u, chain, c, s, main, store, map);
     let l = e.left;
     let given = put_answers(chain, c, answers, reached, e.answer, e.moved, e.wrong);
     Turn {
@@ -81,17 +82,18 @@ pub fn run_chain(
     s: Running,
     main: &mut [u8],
     store: &mut [u8],
+    map: &mut [u8],
     answers: &mut [u8],
 ) -> Walked
-    requires { ⌜ Closes (now chain) 0 × (length (now chain) ≤ length (now answers)) × (length (now chain) ≤ 256) × Sound d s (now store) ⌝ }
-    ensures { λ r. ⌜ Walks d (now (chain .entry)) u s (systemOf u s (now (main .entry)) (now (store .entry)) (now (answers .entry)) 0)
+    requires { ⌜ Closes (now chain) 0 × (length (now chain) ≤ length (now answers)) × (length (now chain) ≤ 256) × Sound d s (now store) (now map) ⌝ }
+    ensures { λ r. ⌜ Walks d (now (chain .entry)) (holding u (now (map .exit))) s (systemOf (holding u (now (map .entry))) s (now (main .entry)) (now (store .entry)) (now (answers .entry)) 0)
         r (now (main .exit)) (now (store .exit)) (now (answers .exit)) ⌝ }
 {
     let mut state = s;
     let mut at = 0;
     let mut reached = 0;
     loop {
-        let t = one_turn(d, chain, at, reached, u, state, main, store, answers);
+        let t = one_turn(d, chain, at, reached, u, state, main, store, map, answers);
         let l = t.left;
         if !t.go {
             return Walked {

@@ -11,7 +11,7 @@ use Rattle.numbers.proofs.Choice.{pick-false}
 use Rattle.slices.specs.Parts.{zeros, put}
 use Rattle.model.specs.declared.decoded.Decoded.{Decoded}
 use Rattle.model.specs.declared.device.Device.{Device}
-use Rattle.model.specs.declared.record.Record.{Record}
+use Rattle.model.specs.declared.record.UnitRecord.{UnitRecord}
 use Rattle.model.specs.declared.state.Before.the-variants.{Other}
 use Rattle.model.specs.Names.{DEFINE-EXTENT}
 use Rattle.model.specs.Rules.{firstOf}
@@ -34,7 +34,7 @@ use Rattle.endings.specs.Ending.{Ends}
 use Rattle.endings.proofs.Ends.{decided-by}
 use Rattle.command_extent.specs.Answers.{definedBy}
 
-module _ (u : Record) (dev : Device) (chain : List ℕ) (c : Decoded) (s : Running) (main store : List ℕ) (h : Handed chain c main) where
+module _ (u : UnitRecord) (dev : Device) (chain : List ℕ) (c : Decoded) (s : Running) (main store : List ℕ) (h : Handed chain c main) where
   -- the command that the code carries
   abbrev it : Command
   it = commandOf chain c
@@ -52,10 +52,11 @@ module _ (u : Record) (dev : Device) (chain : List ℕ) (c : Decoded) (s : Runni
       let bytes : p ≡ fetched it main extentLength = fetched-array (pieces it) main extentLength p f (h .inside) long in
       let verdict : firstOf (defineExtentCauses dev (blockCount dev store) it (stateOf u s) (fetched it main extentLength)) ≡ firstOf (extentCauses dev (blockCount dev store) (fetched it main extentLength))
       = first-later _ _ (le-ltb _ _ long) ∙ first-later _ _ n in
-      decided-by u chain c (h .told) s main store _ _ _ (withExtent s (s .counts) (extentIn (fetched it main extentLength)) Other) extentLength (zeros locateLength) r
+      decided-by u u chain c (h .told) s main store _ _ _ (withExtent s (s .counts) (extentIn (fetched it main extentLength)) Other) extentLength (zeros locateLength) r
       (performed-as dev it (stateOf u s) main store .define-extent k ∙ ap (λ (v : ℕ). decided it (stateOf u s) main store v (defineExtent it (cleared (stateOf u s)) main store)) verdict)
       (e ∙ rw (b, bytes) refl)
       (extent-reads dev (blockCount dev store) (fetched it main extentLength))
       (λ _. sym (pick-false _ _ _ (ne-eqb _ _ (never-given 39 (extentCauses dev (blockCount dev store) (fetched it main extentLength)) refl (λ z. omega arith)))))
+      (λ _. refl)
       (rw k (sym (and-false (s .kept))))
-      (defined-out (fetched it main extentLength))
+      (λ _. defined-out (fetched it main extentLength))

@@ -1,23 +1,14 @@
 -- What the code tests, and the rule's own words for it. No contract cites this file.
 use Prim.Native.Nat.{ℕ, _/_, _≤_, _<_}
 use mathlib.Core.Path.{_≡_, refl, sym, subst}
-use mathlib.Core.Bool.{Bool, true, false, not, _&&_}
-use lib.Dec.{T, ltb, leb, eqb, lit≤}
-use borrow.Author.Tests.{ltb-true, ltb-false, lt-leb, le-leb}
+use mathlib.Core.Bool.{not, _&&_}
+use lib.Dec.{T, leb, eqb, lit≤}
 use Rattle.numbers.specs.Bits.{bit}
 use Rattle.numbers.proofs.Bits.{same-on-bytes}
 
 -- sixteen bytes reach as far
 pub sixteen : {k n : ℕ} → n ≡ 16 → T (leb k 16) → k ≤ n
 sixteen {k} e t = subst (λ (m : ℕ). k ≤ m) (sym e) (lit≤ t)
-
--- "not below" is "at most"
-pub not-below : (a b : ℕ) → not (ltb a b) ≡ leb b a
-not-below a b = go (ltb a b) refl
-  where
-    go : (t : Bool) → ltb a b ≡ t → not t ≡ leb b a
-    go true e = sym (lt-leb b a (ltb-true a b e))
-    go false e = sym (le-leb b a (ltb-false a b e))
 
 -- mask bits 0-1 are 10
 pub mask-ten : (b : ℕ) → b < 256 → (bit b 0 && not (bit b 1)) ≡ eqb (b / 64) 2

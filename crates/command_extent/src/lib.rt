@@ -21,10 +21,12 @@ ghost use lib.ListN.{length};
 ghost use Rattle.numbers.specs.Bits.{bit};
 ghost use Rattle.model.specs.Rules.{firstOf};
 ghost use Rattle.model.specs.Causes.{badMask, otherSize, pastDevice, extentCauses};
-ghost use Rattle.model.specs.declared.record.Record.{Record};
+ghost use Rattle.model.specs.declared.record.UnitRecord.{UnitRecord};
+ghost use Rattle.model.specs.Lent.{blockCount};
+ghost use Rattle.model.specs.Safe.{Usable};
 ghost use Rattle.model.specs.Names.{DEFINE-EXTENT};
 ghost use Rattle.model.specs.Parameters.{extentLength, extentIn};
-ghost use Rattle.unit_state.specs.Standing.{Sound, Handed};
+ghost use Rattle.unit_state.specs.Standing.{Handed};
 ghost use Rattle.endings.specs.Ending.{Performs};
 ghost use Rattle.command_extent.specs.Answers.{definedNumber, definedBy};
 
@@ -151,8 +153,8 @@ pub fn define_extent(
     main: &[u8],
     store: &[u8],
 ) -> Ended
-    requires { ⌜ Sound d s (now store) × Handed (now chain) c (now main) × (c .command ≡ DEFINE-EXTENT) ⌝ }
-    ensures { λ r. ⌜ ((u : Record) → Performs d u (now (chain .entry)) c s r (now (main .entry)) (now (store .entry)) (now (main .entry)) (now (store .entry))) ⌝ }
+    requires { ⌜ Usable d × (1 ≤ blockCount d (now store)) × Handed (now chain) c (now main) × (c .command ≡ DEFINE-EXTENT) ⌝ }
+    ensures { λ r. ⌜ ((u : UnitRecord) → Performs d (now (chain .entry)) c s r u (now (main .entry)) (now (store .entry)) u (now (main .entry)) (now (store .entry))) ⌝ }
 {
     if c.count < sizes::EXTENT {
         return refuse(c, s, 20);

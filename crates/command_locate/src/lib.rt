@@ -1,11 +1,14 @@
 // LOCATE: its eight bytes taken apart, and taken or refused (`locate_parameters`; a refusal is a case of its answer, with 01's
-// number); and the command, `locate`. It changes no storage.
+// number); and the command, `locate`. It changes no storage and, but for a format, no map.
+use alternates::format_block;
+use alternates::unused;
 use endings::Ended;
 use endings::accept;
 use endings::refuse;
 use endings::refuse_parameters;
 use log::movement_counted;
 use model::decoded::Decoded;
+use model::device::Device;
 use model::extent::Displacement;
 use model::extent::Extent;
 use model::extent::Located;
@@ -16,19 +19,22 @@ use storage::fetch;
 use unit_state::Running;
 use unit_state::locate_set;
 ghost use mathlib.Core.Path.{_≡_};
+ghost use mathlib.Core.Bool.{true};
 ghost use mathlib.Core.List.{List};
 ghost use Prim.Native.Nat.{ℕ, _<_};
 ghost use lib.ListN.{length};
 ghost use Rattle.numbers.specs.Choice.{oneOf};
-ghost use Rattle.model.specs.declared.device.Device.{Device};
-ghost use Rattle.model.specs.Names.{LOCATE};
+ghost use Rattle.model.specs.Names.{LOCATE, format};
+ghost use Rattle.model.specs.Alternates.{unusedIn};
 ghost use Rattle.model.specs.Rules.{firstOf};
 ghost use Rattle.model.specs.Parameters.{locateLength, locatedIn, processed, operations, forbids, outside};
-ghost use Rattle.model.specs.Causes.{badModifiers, badCount, badReplication, inhibits, locationCauses, permissionCauses};
+ghost use Rattle.model.specs.Causes.{badModifiers, badCount, badReplication, inhibits, noneToTake, locationCauses, permissionCauses};
+ghost use Rattle.model.specs.Commands.{mapAfter};
+ghost use Rattle.model.specs.Safe.{HasMap, OnDevice, InExtent};
 ghost use Rattle.model.specs.Sense.{shown};
-ghost use Rattle.unit_state.specs.Standing.{stateOf, Handed};
+ghost use Rattle.unit_state.specs.Standing.{holding, stateOf, Handed};
 ghost use Rattle.endings.specs.Ending.{Performs};
-ghost use Rattle.command_locate.specs.Answers.{locationNumber, locatedBy};
+ghost use Rattle.command_locate.specs.Answers.{locationNumber, locatedBy, mapLeft};
 
 pub enum Location {
     Found,
@@ -172,10 +178,21 @@ fn write_inhibited(read_only: u8, code: u32) -> bool
     code == operation::FORMAT
 }
 
+// A format, and no alternate is unused.
+fn none_to_take(d: Device, map: &[u8], code: u32) -> bool
+    requires { ⌜ HasMap d (now map) ⌝ }
+    ensures { λ r. ⌜ r ≡ noneToTake d (now (map .entry)) code ⌝ }
+{
+    if code != operation::FORMAT {
+        return false;
+    }
+    d.alternates <= unused(d.alternates, map)
+}
+
 // What is asked for is within the extent, and the mask, the switch and the alternates allow it.
-fn permit(u: Record, s: Running, l: Located, n: usize) -> Location
-    requires { ⌜ (l .operation < 7) × (n < 65536) ⌝ }
-    ensures { λ r. ⌜ locationNumber r ≡ firstOf (permissionCauses (stateOf u s) l n) ⌝ }
+fn permit(d: Device, u: Record, s: Running, map: &[u8], l: Located, n: usize) -> Location
+    requires { ⌜ (l .operation < 7) × (n < 65536) × HasMap d (now map) ⌝ }
+    ensures { λ r. ⌜ locationNumber r ≡ firstOf (permissionCauses d (stateOf (holding u (now (map .entry))) s) l n) ⌝ }
 {
     let e = s.extent;
     if outside_extent(e, l.displacement, n) {
@@ -187,16 +204,16 @@ fn permit(u: Record, s: Running, l: Located, n: usize) -> Location
     if write_inhibited(u.read_only, l.operation) {
         return Location::ReadOnly;
     }
-    if l.operation == operation::FORMAT {
+    if none_to_take(d, map, l.operation) {
         return Location::NoAlternate;
     }
     Location::Found
 }
 
-// The eight bytes, under the extent and on the unit of this state.
-fn locate_parameters(u: Record, s: Running, p: &[u8]) -> Location
-    requires { ⌜ length (now p) ≡ locateLength ⌝ }
-    ensures { λ r. ⌜ locationNumber r ≡ firstOf (locationCauses (stateOf u s) (now (p .entry))) ⌝ }
+// The eight bytes, under the extent and on the unit of this state, with this map.
+fn locate_parameters(d: Device, u: Record, s: Running, map: &[u8], p: &[u8]) -> Location
+    requires { ⌜ (length (now p) ≡ locateLength) × HasMap d (now map) ⌝ }
+    ensures { λ r. ⌜ locationNumber r ≡ firstOf (locationCauses d (stateOf (holding u (now (map .entry))) s) (now (p .entry))) ⌝ }
 {
     let l = located_in(p);
     let replication = numbers::wide(p[1]);
@@ -213,7 +230,7 @@ fn locate_parameters(u: Record, s: Running, p: &[u8]) -> Location
         return Location::BadReplication;
     }
     let n = blocks_processed(l, replication);
-    permit(u, s, l, n)
+    permit(d, u, s, map, l, n)
 }
 
 // The parameters that a cause shows: the LOCATE's eight bytes with 39, else zeros.
@@ -228,24 +245,47 @@ fn shown_by(cause: u8, p: &[u8]) -> [u8; sizes::LOCATE]
     shown
 }
 
-// The command by its eight bytes.
-fn locate_by(u: Record, c: Decoded, s: Running, p: &[u8]) -> Ended
-    requires { ⌜ length (now p) ≡ locateLength ⌝ }
-    ensures { λ r. ⌜ r ≡ locatedBy u c s (now (p .entry)) ⌝ }
+// The map is as the LOCATE leaves it: another one after a format.
+fn leave_map(d: Device, e: Extent, l: Located, map: &mut [u8])
+    requires { ⌜ HasMap d (now map) × InExtent e l × OnDevice e 131072 × (l .operation ≡ format → unusedIn (now map) (d .alternates) < d .alternates) ⌝ }
+    ensures { λ _. ⌜ now (map .exit) ≡ mapAfter d (now (map .entry)) e l ⌝ }
 {
-    let answer = locate_parameters(u, s, p);
+    if l.operation != operation::FORMAT {
+        return;
+    }
+    let block = e.address(l.displacement) as usize;
+    format_block(d.alternates, map, block);
+}
+
+// The command by its eight bytes.
+fn locate_by(d: Device, u: Record, c: Decoded, s: Running, map: &mut [u8], p: &[u8]) -> Ended
+    requires { ⌜ (length (now p) ≡ locateLength) × HasMap d (now map) × OnDevice (s .extent) 131072 ⌝ }
+    ensures ended { λ r. ⌜ r ≡ locatedBy d (holding u (now (map .entry))) c s (now (p .entry)) ⌝ }
+    ensures left { λ _. ⌜ now (map .exit) ≡ mapLeft d (holding u (now (map .entry))) s (now (p .entry)) ⌝ }
+{
+    let answer = locate_parameters(d, u, s, map, p);
     let cause = answer.number();
     if cause != 0 {
         return refuse_parameters(c, s, cause, sizes::LOCATE, shown_by(cause, p));
     }
-    let t = locate_set(s, movement_counted(s.counts), located_in(p));
+    let l = located_in(p);
+    leave_map(d, s.extent, l, map);
+    let t = locate_set(s, movement_counted(s.counts), l);
     accept(c, t, sizes::LOCATE, sizes::LOCATE, 0)
 }
 
 // Its parameters are taken from main storage now, when it runs.
-pub fn locate(u: Record, chain: &[u8], c: Decoded, s: Running, main: &[u8]) -> Ended
-    requires { ⌜ Handed (now chain) c (now main) × (c .command ≡ LOCATE) ⌝ }
-    ensures { λ r. ⌜ ((d : Device) (store : List ℕ) → Performs d u (now (chain .entry)) c s r (now (main .entry)) store (now (main .entry)) store) ⌝ }
+pub fn locate(
+    d: Device,
+    u: Record,
+    chain: &[u8],
+    c: Decoded,
+    s: Running,
+    main: &[u8],
+    map: &mut [u8],
+) -> Ended
+    requires { ⌜ Handed (now chain) c (now main) × (c .command ≡ LOCATE) × HasMap d (now map) × (s .defined ≡ true → OnDevice (s .extent) 131072) ⌝ }
+    ensures { λ r. ⌜ ((store : List ℕ) → Performs d (now (chain .entry)) c s r (holding u (now (map .entry))) (now (main .entry)) store (holding u (now (map .exit))) (now (main .entry)) store) ⌝ }
 {
     if !s.defined {
         return refuse(c, s, 30);
@@ -255,5 +295,5 @@ pub fn locate(u: Record, chain: &[u8], c: Decoded, s: Running, main: &[u8]) -> E
     }
     let mut p = [0u8; sizes::LOCATE];
     fetch(chain, c.area, main, &mut p, sizes::LOCATE);
-    locate_by(u, c, s, &p)
+    locate_by(d, u, c, s, map, &p)
 }

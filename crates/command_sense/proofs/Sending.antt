@@ -10,6 +10,7 @@ use Rattle.model.specs.declared.decoded.Decoded.{Decoded}
 use Rattle.model.specs.declared.device.Device.{Device}
 use Rattle.model.specs.declared.record.Counts.{Counts}
 use Rattle.model.specs.declared.record.Record.{Record}
+use Rattle.model.specs.declared.record.UnitRecord.{UnitRecord}
 use Rattle.model.specs.declared.state.Before.the-variants.{Other}
 use Rattle.model.specs.State.{State}
 use Rattle.numbers.specs.Choice.{_=?_}
@@ -29,7 +30,7 @@ use Rattle.endings.specs.Ending.{Ends}
 use Rattle.endings.proofs.Ends.{accepted-ends}
 use Rattle.command_sense.specs.Sent.{sentEnd}
 
-module _ (u : Record) (dev : Device) (chain : List ℕ) (c : Decoded) (told : Decodes chain c) (s : Running) (main store : List ℕ) (r : Ended) (main′ bytes : List ℕ) where
+module _ (u : UnitRecord) (dev : Device) (chain : List ℕ) (c : Decoded) (told : Decodes chain c) (s : Running) (main store : List ℕ) (r : Ended) (main′ bytes : List ℕ) where
   -- the command that the code carries
   abbrev it : Command
   it = commandOf chain c
@@ -51,11 +52,11 @@ module _ (u : Record) (dev : Device) (chain : List ℕ) (c : Decoded) (told : De
   unfolding cleared after
   sensed = refl
 
-  found-sense : senseNow (u .sense) (s .kept) ≡ stateOf u s .unit .sense
+  found-sense : senseNow (u .unit .sense) (s .kept) ≡ stateOf u s .unit .sense
   unfolding stateOf unitOf counted withCounts withSense
   found-sense = refl
 
-  pub sense-ends : c .command ≡ SENSE → bytes ≡ senseNow (u .sense) (s .kept) → length bytes ≡ 24 → r ≡ sentEnd c s (length bytes) (s .counts)
+  pub sense-ends : c .command ≡ SENSE → bytes ≡ senseNow (u .unit .sense) (s .kept) → length bytes ≡ 24 → r ≡ sentEnd c s (length bytes) (s .counts)
       → main′ ≡ delivered it main (take (min (c .count) (length bytes)) bytes) → Ends u it s r main′ store (performed dev it (stateOf u s) main store)
   unfolding sense
   sense-ends k b l e m =

@@ -17,11 +17,11 @@ ghost use mathlib.Core.List.{List};
 ghost use Prim.Native.Nat.{ℕ, min};
 ghost use lib.ListN.{length, take};
 ghost use Rattle.model.specs.declared.device.Device.{Device};
-ghost use Rattle.model.specs.declared.record.Record.{Record};
+ghost use Rattle.model.specs.declared.record.UnitRecord.{UnitRecord};
 ghost use Rattle.model.specs.Names.{SENSE, SENSE-TYPE, READ-LOG};
 ghost use Rattle.model.specs.Pieces.{delivered};
 ghost use Rattle.model.specs.Decoded.{commandOf};
-ghost use Rattle.unit_state.specs.Standing.{Handed};
+ghost use Rattle.unit_state.specs.Standing.{holding, Handed};
 ghost use Rattle.endings.specs.Ending.{Performs};
 ghost use Rattle.command_sense.specs.Sent.{sentEnd};
 
@@ -38,7 +38,7 @@ fn send(chain: &[u8], c: Decoded, s: Running, main: &mut [u8], bytes: &[u8], k: 
 
 pub fn sense(u: Record, chain: &[u8], c: Decoded, s: Running, main: &mut [u8]) -> Ended
     requires { ⌜ Handed (now chain) c (now main) × (c .command ≡ SENSE) ⌝ }
-    ensures { λ r. ⌜ ((d : Device) (store : List ℕ) → Performs d u (now (chain .entry)) c s r (now (main .entry)) store (now (main .exit)) store) ⌝ }
+    ensures { λ r. ⌜ ((map : List ℕ) (d : Device) (store : List ℕ) → Performs d (now (chain .entry)) c s r (holding u map) (now (main .entry)) store (holding u map) (now (main .exit)) store) ⌝ }
 {
     let found = u.sense;
     let bytes = sense_now(found, s.kept);
@@ -50,7 +50,7 @@ const TYPE: [u8; 7] = [0xFF, 0x00, 0x97, 0x01, 0x05, 0x12, 0x01];
 
 pub fn sense_type(chain: &[u8], c: Decoded, s: Running, main: &mut [u8]) -> Ended
     requires { ⌜ Handed (now chain) c (now main) × (c .command ≡ SENSE-TYPE) ⌝ }
-    ensures { λ r. ⌜ ((u : Record) (d : Device) (store : List ℕ) → Performs d u (now (chain .entry)) c s r (now (main .entry)) store (now (main .exit)) store) ⌝ }
+    ensures { λ r. ⌜ ((u : UnitRecord) (d : Device) (store : List ℕ) → Performs d (now (chain .entry)) c s r u (now (main .entry)) store u (now (main .exit)) store) ⌝ }
 {
     let bytes = TYPE;
     send(chain, c, s, main, &bytes, s.counts)
@@ -58,7 +58,7 @@ pub fn sense_type(chain: &[u8], c: Decoded, s: Running, main: &mut [u8]) -> Ende
 
 pub fn read_log(chain: &[u8], c: Decoded, s: Running, main: &mut [u8]) -> Ended
     requires { ⌜ Handed (now chain) c (now main) × (c .command ≡ READ-LOG) ⌝ }
-    ensures { λ r. ⌜ ((u : Record) (d : Device) (store : List ℕ) → Performs d u (now (chain .entry)) c s r (now (main .entry)) store (now (main .exit)) store) ⌝ }
+    ensures { λ r. ⌜ ((u : UnitRecord) (d : Device) (store : List ℕ) → Performs d (now (chain .entry)) c s r u (now (main .entry)) store u (now (main .exit)) store) ⌝ }
 {
     let log = Log::of(s.counts);
     let bytes = log.0;

@@ -1,11 +1,14 @@
 -- How the code's transfers end.
+--     Placed                       the located blocks are not before the extent's first, and not too many
 --     moveOf                       what a READ or WRITE moves: by the LOCATE before it, the address rule and its count
 --     readEnd, writeEnd, iplEnd    READ, WRITE and READ IPL, once their bytes are moved
 -- Assumes nothing.
-use Prim.Native.Nat.{ℕ, min}
+use Prim.Native.Nat.{ℕ, _+_, _*_, _≤_, min}
 use Rattle.numbers.specs.Choice.{_=?_, pick}
 use Rattle.model.specs.declared.decoded.Decoded.{Decoded}
 use Rattle.model.specs.declared.device.Device.{Device}
+use Rattle.model.specs.declared.extent.Extent.{Extent}
+use Rattle.model.specs.declared.extent.Located.{Located}
 use Rattle.model.specs.declared.record.Counts.{Counts}
 use Rattle.model.specs.declared.state.Before.the-variants.{Other, ReadIpl}
 use Rattle.model.specs.Names.{write-check}
@@ -16,6 +19,11 @@ use Rattle.unit_state.specs.Standing.{wentOn, withExtent}
 use Rattle.endings.specs.declared.Ended.{Ended}
 use Rattle.endings.specs.Ending.{acceptedEnd}
 use Rattle.command_transfer.specs.declared.Move.{Move}
+
+pub record Placed (dev : Device) (e : Extent) (l : Located) : Type 0 where
+  pub from-first : e .first .0 ≤ l .displacement .0
+  pub few : firstBlock e l + l .blocks ≤ 131072
+  pub product : l .blocks * dev .block ≤ 131072 * 65535
 
 abbrev pub moveOf : Device → Decoded → Running → Move
 moveOf dev c s = record {

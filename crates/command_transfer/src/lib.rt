@@ -2,6 +2,7 @@
 use blocks::begun;
 use blocks::block_count;
 use blocks::read_blocks;
+use blocks::read_mapped;
 use blocks::store_blocks;
 use endings::Ended;
 use endings::accept;
@@ -30,9 +31,9 @@ ghost use Rattle.model.specs.Rules.{firstOf};
 ghost use Rattle.model.specs.Causes.{a-locate, none-or-ipl, transferRules};
 ghost use Rattle.model.specs.Commands.{begun, wholeDevice};
 ghost use Rattle.model.specs.Safe.{Usable};
-ghost use Rattle.unit_state.specs.Standing.{Sound, Handed};
+ghost use Rattle.unit_state.specs.Standing.{holding, Sound, Handed};
 ghost use Rattle.endings.specs.Ending.{Performs};
-ghost use Rattle.command_transfer.specs.Transferred.{moveOf, readEnd, writtenBy, writeEnd, iplEnd};
+ghost use Rattle.command_transfer.specs.Transferred.{Placed, moveOf, readEnd, writtenBy, writeEnd, iplEnd};
 
 // Directly before stood an accepted LOCATE.
 fn after_locate(before: Before) -> bool
@@ -80,8 +81,8 @@ pub struct Move {
 }
 
 // By the LOCATE before, the address rule and the count.
-fn located_move(d: Device, c: Decoded, s: Running, store: &[u8]) -> Move
-    requires { ⌜ Sound d s (now store) × (a-locate (s .before) ≡ true) ⌝ }
+fn located_move(d: Device, c: Decoded, s: Running) -> Move
+    requires { ⌜ Placed d (s .extent) (s .located) ⌝ }
     ensures { λ r. ⌜ r ≡ moveOf d c s ⌝ }
 {
     let e = s.extent;
@@ -103,18 +104,26 @@ fn read_done(d: Device, c: Decoded, s: Running, m: Move) -> Ended
     accept(c, t, m.n, m.can, blocks)
 }
 
-pub fn read(d: Device, chain: &[u8], c: Decoded, s: Running, main: &mut [u8], store: &[u8]) -> Ended
-    requires { ⌜ Sound d s (now store) × Handed (now chain) c (now main) × (c .command ≡ READ) ⌝ }
-    ensures { λ r. ⌜ ((u : Record) → Performs d u (now (chain .entry)) c s r (now (main .entry)) (now (store .entry)) (now (main .exit)) (now (store .entry))) ⌝ }
+pub fn read(
+    d: Device,
+    chain: &[u8],
+    c: Decoded,
+    s: Running,
+    main: &mut [u8],
+    store: &[u8],
+    map: &[u8],
+) -> Ended
+    requires { ⌜ Sound d s (now store) (now map) × Handed (now chain) c (now main) × (c .command ≡ READ) ⌝ }
+    ensures { λ r. ⌜ ((u : Record) → Performs d (now (chain .entry)) c s r (holding u (now (map .entry))) (now (main .entry)) (now (store .entry)) (holding u (now (map .entry))) (now (main .exit)) (now (store .entry))) ⌝ }
 {
     let l = s.located;
     let cause = transfer_cause(s, operation::reads(l.operation));
     if cause != 0 {
         return refuse(c, s, cause);
     }
-    let m = located_move(d, c, s, store);
+    let m = located_move(d, c, s);
     let blocks = l.blocks as usize;
-    read_blocks(d, store, m.block, blocks, chain, c.area, main, m.n);
+    read_blocks(d, store, map, m.block, blocks, chain, c.area, main, m.n);
     read_done(d, c, s, m)
 }
 
@@ -146,18 +155,19 @@ pub fn write(
     s: Running,
     main: &[u8],
     store: &mut [u8],
+    map: &[u8],
 ) -> Ended
-    requires { ⌜ Sound d s (now store) × Handed (now chain) c (now main) × (c .command ≡ WRITE) ⌝ }
-    ensures { λ r. ⌜ ((u : Record) → Performs d u (now (chain .entry)) c s r (now (main .entry)) (now (store .entry)) (now (main .entry)) (now (store .exit))) ⌝ }
+    requires { ⌜ Sound d s (now store) (now map) × Handed (now chain) c (now main) × (c .command ≡ WRITE) ⌝ }
+    ensures { λ r. ⌜ ((u : Record) → Performs d (now (chain .entry)) c s r (holding u (now (map .entry))) (now (main .entry)) (now (store .entry)) (holding u (now (map .entry))) (now (main .entry)) (now (store .exit))) ⌝ }
 {
     let l = s.located;
     let cause = transfer_cause(s, operation::writes(l.operation));
     if cause != 0 {
         return refuse(c, s, cause);
     }
-    let m = located_move(d, c, s, store);
+    let m = located_move(d, c, s);
     let blocks = l.blocks as usize;
-    store_blocks(d, store, m.block, blocks, chain, c.area, main, m.n);
+    store_blocks(d, store, map, m.block, blocks, chain, c.area, main, m.n);
     write_done(d, c, s, m)
 }
 
@@ -190,15 +200,16 @@ pub fn read_ipl(
     s: Running,
     main: &mut [u8],
     store: &[u8],
+    map: &[u8],
 ) -> Ended
-    requires { ⌜ Sound d s (now store) × Handed (now chain) c (now main) × (c .command ≡ READ-IPL) ⌝ }
-    ensures { λ r. ⌜ ((u : Record) → Performs d u (now (chain .entry)) c s r (now (main .entry)) (now (store .entry)) (now (main .exit)) (now (store .entry))) ⌝ }
+    requires { ⌜ Sound d s (now store) (now map) × Handed (now chain) c (now main) × (c .command ≡ READ-IPL) ⌝ }
+    ensures { λ r. ⌜ ((u : Record) → Performs d (now (chain .entry)) c s r (holding u (now (map .entry))) (now (main .entry)) (now (store .entry)) (holding u (now (map .entry))) (now (main .exit)) (now (store .entry))) ⌝ }
 {
     let before = s.before;
     if !none_or_ipl(before) {
         return refuse(c, s, 40);
     }
     let n = least(c.count, d.block);
-    read_blocks(d, store, 0, 1, chain, c.area, main, n);
+    read_mapped(d, store, map, 0, 1, chain, c.area, main, n);
     ipl_done(d, c, s, n, block_count(d, store))
 }

@@ -6,14 +6,14 @@
 --                                    the same, whole: by a cause without parameters; accepted; by the parameters of DEFINE EXTENT or LOCATE
 use Prim.Native.Nat.{ℕ}
 use mathlib.Core.Path.{_≡_, refl, sym, ap, _∙_}
-use mathlib.Core.Bool.{false, _&&_}
+use mathlib.Core.Bool.{true, false, _&&_}
 use mathlib.Core.List.{List}
 use borrow.Author.Tests.{eqb-false, ne-eqb}
 use Rattle.numbers.specs.Choice.{_=?_, pick}
 use Rattle.numbers.proofs.Choice.{pick-true, pick-false, pick-both}
 use Rattle.slices.specs.Parts.{zeros}
 use Rattle.model.specs.declared.decoded.Decoded.{Decoded}
-use Rattle.model.specs.declared.record.Record.{Record}
+use Rattle.model.specs.declared.record.UnitRecord.{UnitRecord}
 use Rattle.model.specs.Names.{NO-OPERATION}
 use Rattle.model.specs.Lent.{flag}
 use Rattle.model.specs.Pieces.{fetched}
@@ -36,7 +36,7 @@ told-wrong : (chain : List ℕ) (c : Decoded) (can : ℕ) → Decodes chain c �
 unfolding wrongLength flag
 told-wrong chain c can t = rw (t .count, t .flags) refl
 
-module _ (u : Record) (chain : List ℕ) (c : Decoded) (told : Decodes chain c) (s : Running) (main store : List ℕ) where
+module _ (u : UnitRecord) (chain : List ℕ) (c : Decoded) (told : Decodes chain c) (s : Running) (main store : List ℕ) where
   pub refused-ends : (w n : ℕ) (p : List ℕ) (r : Ended) → r ≡ parametersRefused c s w n p → n ≡ bytesRead w → p ≡ shown w (fetched (commandOf chain c) main locateLength) → (w ≡ 0 → ⊥)
       → Ends u (commandOf chain c) s r main store (refused (commandOf chain c) (stateOf u s) main store w)
   unfolding refused
@@ -101,14 +101,14 @@ module _ (u : Record) (chain : List ℕ) (c : Decoded) (told : Decodes chain c) 
   accepted-by x v o t moved can blocks r main′ store′ d f e k p =
       rw d (decided-accepted v r main′ store′ o f (rw (← p) (accepted-ends t moved can blocks r main′ store′ _ e k refl refl refl)))
 
-  -- by its parameters, and all that it moves is those
-  pub decided-by : (x : Out) (v : ℕ) (o : Out) (t : Running) (n : ℕ) (p : List ℕ) (r : Ended)
-      → x ≡ decided (commandOf chain c) (stateOf u s) main store v o → r ≡ pick (v =? 0) (acceptedEnd c t n n 0) (parametersRefused c s v n p)
-      → (v =? 0 ≡ false → bytesRead v ≡ n) → (v =? 0 ≡ false → p ≡ shown v (fetched (commandOf chain c) main locateLength))
-      → t .kept ≡ (s .kept && c .command =? NO-OPERATION) → out (ended (stateOf u t) n n 0) main store ≡ o → Ends u (commandOf chain c) s r main store x
-  unfolding decided
-  decided-by x v o t n p r d e b q k f =
-      rw (d, e, ← f)
-      (pick-both (λ (y : Ended) (z : Out). Ends u (commandOf chain c) s y main store z) (v =? 0) _ _ _ _
-      (λ _. accepted-ends t n n 0 _ main store _ refl k refl refl refl)
-      (λ z. refused-ends v n p _ refl (sym (b z)) (q z) (eqb-false _ _ z)))
+-- by its parameters, and all that it moves is those. u is the record with the map as the command found it, w with the map that it leaves: if it is refused, the same
+pub decided-by : (u w : UnitRecord) (chain : List ℕ) (c : Decoded) (told : Decodes chain c) (s : Running) (main store : List ℕ) (x : Out) (v : ℕ) (o : Out) (t : Running) (n : ℕ) (p : List ℕ) (r : Ended)
+    → x ≡ decided (commandOf chain c) (stateOf u s) main store v o → r ≡ pick (v =? 0) (acceptedEnd c t n n 0) (parametersRefused c s v n p)
+    → (v =? 0 ≡ false → bytesRead v ≡ n) → (v =? 0 ≡ false → p ≡ shown v (fetched (commandOf chain c) main locateLength)) → (v =? 0 ≡ false → w ≡ u)
+    → t .kept ≡ (s .kept && c .command =? NO-OPERATION) → (v =? 0 ≡ true → out (ended (stateOf w t) n n 0) main store ≡ o) → Ends w (commandOf chain c) s r main store x
+unfolding decided
+decided-by u w chain c told s main store x v o t n p r d e b q m k f =
+    rw (d, e)
+    (pick-both (λ (y : Ended) (z : Out). Ends w (commandOf chain c) s y main store z) (v =? 0) _ _ _ _
+    (λ z. rw (← (f z)) (accepted-ends w chain c told s main store t n n 0 _ main store _ refl k refl refl refl))
+    (λ z. rw (m z) (refused-ends u chain c told s main store v n p _ refl (sym (b z)) (q z) (eqb-false _ _ z))))

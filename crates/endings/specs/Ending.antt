@@ -20,7 +20,7 @@ use Rattle.numbers.specs.Bits.{bit}
 use Rattle.model.specs.declared.decoded.Decoded.{Decoded}
 use Rattle.model.specs.declared.kind.Kind.{Kind}
 use Rattle.model.specs.declared.kind.Kind.the-variants.{Accepted, ProgramCheck, UnitCheck}
-use Rattle.model.specs.declared.record.Record.{Record}
+use Rattle.model.specs.declared.record.UnitRecord.{UnitRecord}
 use Rattle.model.specs.Names.{NO-OPERATION, suppress-length, INCORRECT-LENGTH, channel-status-at}
 use Rattle.model.specs.Pieces.{Command, fetched}
 use Rattle.model.specs.Parameters.{locateLength}
@@ -79,15 +79,15 @@ parametersRefused c s cause read parameters = endOf c s read 0 0 cause (senseSho
 abbrev pub refusedEnd : Decoded → Running → ℕ → Ended
 refusedEnd c s cause = parametersRefused c s cause 0 (zeros locateLength)
 
--- in a chain that found record u, of a command that found state s
-pub record Leaves (u : Record) (c : Command) (s : Running) (l : Left) (o : Out) : Type 0 where
+-- in a chain that found record u, which has the map that is left, of a command that found state s
+pub record Leaves (u : UnitRecord) (c : Command) (s : Running) (l : Left) (o : Out) : Type 0 where
   pub state : stateLeft u l ≡ o .done .state
   pub cause : l .cause ≡ o .done .cause
   pub kept : l .cause ≡ 0 → l .state .kept ≡ (s .kept && c .command =? NO-OPERATION)
   pub refused : (l .cause ≡ 0 → ⊥) → l .state ≡ s
   pub sense : l .sense ≡ senseShowing (l .cause) (shown (l .cause) (fetched c (o .main) locateLength))
 
-pub record Ends (u : Record) (c : Command) (s : Running) (r : Ended) (main store : List ℕ) (o : Out) : Type 0 where
+pub record Ends (u : UnitRecord) (c : Command) (s : Running) (r : Ended) (main store : List ℕ) (o : Out) : Type 0 where
   pub left : Leaves u c s (r .left) o
   pub answer : r .answer ≡ answerWords (kindOf (o .done .cause)) (o .done .cause) (o .done .blocks)
   pub moved : r .moved ≡ o .done .moved
@@ -95,6 +95,6 @@ pub record Ends (u : Record) (c : Command) (s : Running) (r : Ended) (main store
   pub main-same : main ≡ o .main
   pub store-same : store ≡ o .store
 
--- of a command of this chain, in a chain that found record u, that found state s, main storage and store, and leaves the latter two primed
-abbrev pub Performs : Device → Record → List ℕ → Decoded → Running → Ended → List ℕ → List ℕ → List ℕ → List ℕ → Type 0
-Performs dev u chain c s r main store main′ store′ = Ends u (commandOf chain c) s r main′ store′ (performed dev (commandOf chain c) (stateOf u s) main store)
+-- of a command of this chain that found state s, record u with the map as it then was, main storage and store, and leaves all but the first primed
+abbrev pub Performs : Device → List ℕ → Decoded → Running → Ended → UnitRecord → List ℕ → List ℕ → UnitRecord → List ℕ → List ℕ → Type 0
+Performs dev chain c s r u main store u′ main′ store′ = Ends u′ (commandOf chain c) s r main′ store′ (performed dev (commandOf chain c) (stateOf u s) main store)

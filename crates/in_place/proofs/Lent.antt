@@ -6,11 +6,11 @@ use mir.Val.{Val}
 use denote.Ref.{RefT}
 use denote.Slice.{sliceVal}
 use denote.Struct.Laws as LL
-use Rattle.model.specs.declared.record.Record.{Record}
-use Rattle.model.proofs.record.Record as T
-use Rattle.model.proofs.record.Record.Laws as T′
+use Rattle.model.specs.declared.record.UnitRecord.{UnitRecord}
+use Rattle.model.proofs.record.UnitRecord as T
+use Rattle.model.proofs.record.UnitRecord.Laws as T′
 
-abbrev pub mach : Record → Val
+abbrev pub mach : UnitRecord → Val
 mach h = LL.val T.the-type T′.the-laws h
 
 abbrev pub slice : RefT (List ℕ) → Val

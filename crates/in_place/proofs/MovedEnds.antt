@@ -5,32 +5,35 @@
 use Prim.Native.Nat.{ℕ}
 use mathlib.Core.Path.{_≡_}
 use mathlib.Core.List.{List}
-use Rattle.model.specs.declared.record.Record.{Record}
+use lib.ListN.{length}
+use Rattle.model.specs.declared.record.UnitRecord.{UnitRecord}
+use Rattle.model.specs.Alternates.{mapSize}
 use Rattle.model.specs.Chain.{classA}
 use Rattle.model.specs.Moved.{Own, own, Moved, SameLent}
 use Rattle.model.proofs.MovedRun.{moved-same}
 use Rattle.in_place.specs.Run.{Outcome, outcome, ByValue, InPlace}
 
-pub record EndAlike (chain : List ℕ) (d : ℕ) (l l′ : Own) (o o′ : Outcome) : Type 0 where
-  pub unit : o .unit ≡ o′ .unit
+-- the records are equal but for their maps
+pub record EndAlike (alternates : ℕ) (chain : List ℕ) (d : ℕ) (map : List ℕ) (l l′ : Own) (o o′ : Outcome) : Type 0 where
+  pub unit : o .unit .unit ≡ o′ .unit .unit
   pub code : o .code ≡ o′ .code
   pub answers : o .answers ≡ o′ .answers
-  pub lent : SameLent classA chain d l l′ (own (o .storage) (o .store)) (own (o′ .storage) (o′ .store))
+  pub lent : SameLent (classA alternates) chain d map l l′ (o .unit .map) (o′ .unit .map) (own (o .storage) (o .store)) (own (o′ .storage) (o′ .store))
 
 -- o and o′ are what the two runs gave, each with all that was lent as it then is
-module _ (r : Record) (chain : List ℕ) (d : ℕ) (l l′ : Own) (answers : List ℕ) (h : Moved classA chain d l l′) (o o′ : Outcome) where
-  outcomes-alike : o ≡ outcome r chain (l .main) (l .store) answers → o′ ≡ outcome r chain (l′ .main) (l′ .store) answers → EndAlike chain d l l′ o o′
+module _ (r : UnitRecord) (alternates : ℕ) (chain : List ℕ) (d : ℕ) (l l′ : Own) (answers : List ℕ) (h : Moved (classA alternates) chain d (r .map) l l′) (long : length (r .map) ≡ mapSize) (o o′ : Outcome) where
+  outcomes-alike : o ≡ outcome r alternates chain (l .main) (l .store) answers → o′ ≡ outcome r alternates chain (l′ .main) (l′ .store) answers → EndAlike alternates chain d (r .map) l l′ o o′
   unfolding outcome
   outcomes-alike p q =
-      let s = moved-same classA chain d l l′ h r answers in
+      let s = moved-same (classA alternates) chain d (r .map) l l′ h (r .unit) answers long in
       rw (p, q) (record { unit = s .unit; code = rw (s .cause, s .reached); answers = s .answers; lent = s .lent })
 
-  pub cores-alike : ByValue r chain (l .main) (l .store) answers (record { unit = o .unit; code = o .code }) (o .storage) (o .store) (o .answers)
-      → ByValue r chain (l′ .main) (l′ .store) answers (record { unit = o′ .unit; code = o′ .code }) (o′ .storage) (o′ .store) (o′ .answers)
-      → EndAlike chain d l l′ o o′
+  pub cores-alike : ByValue r alternates chain (l .main) (l .store) answers (record { unit = o .unit; code = o .code }) (o .storage) (o .store) (o .answers)
+      → ByValue r alternates chain (l′ .main) (l′ .store) answers (record { unit = o′ .unit; code = o′ .code }) (o′ .storage) (o′ .store) (o′ .answers)
+      → EndAlike alternates chain d (r .map) l l′ o o′
   cores-alike p q = outcomes-alike (p .is) (q .is)
 
-  pub runs-alike : InPlace r chain (l .main) (l .store) answers (o .code) (o .unit) (o .storage) (o .store) (o .answers)
-      → InPlace r chain (l′ .main) (l′ .store) answers (o′ .code) (o′ .unit) (o′ .storage) (o′ .store) (o′ .answers)
-      → EndAlike chain d l l′ o o′
+  pub runs-alike : InPlace r alternates chain (l .main) (l .store) answers (o .code) (o .unit) (o .storage) (o .store) (o .answers)
+      → InPlace r alternates chain (l′ .main) (l′ .store) answers (o′ .code) (o′ .unit) (o′ .storage) (o′ .store) (o′ .answers)
+      → EndAlike alternates chain d (r .map) l l′ o o′
   runs-alike p q = outcomes-alike (p .is) (q .is)

@@ -7,6 +7,7 @@ use lib.Dec.{eqb}
 use native.Mathlib.Omega.{arith}
 use borrow.Author.Tests.{eqb-true, eqb-false}
 use Rattle.model.specs.declared.record.Record.{Record}
+use Rattle.model.specs.declared.record.UnitRecord.{UnitRecord}
 use Rattle.model.specs.Rules.{firstOf}
 use Rattle.model.specs.Causes.{callCauses}
 use Rattle.model.specs.Chain.{Called, call, classA}
@@ -15,17 +16,19 @@ use Rattle.model.proofs.Refusals.{call-refused}
 use Rattle.model.proofs.Endings.{callable, call-reached}
 use Rattle.in_place.specs.Run.{given, outcome}
 
-few-reached : (chain main store : List ℕ) (u : Record) (answers : List ℕ) → call chain main store u answers .reached ≤ 32
-few-reached chain main store u answers = go (eqb (firstOf (callCauses classA chain main store answers)) 0) refl
-  where
-    go : (b : Bool) → eqb (firstOf (callCauses classA chain main store answers)) 0 ≡ b → call chain main store u answers .reached ≤ 32
-    go true e = omega (arith, callable classA chain main store answers (eqb-true _ _ e) .few, call-reached classA chain main store u answers .1)
-    go false e = rw (call-refused classA chain main store u answers _ refl (eqb-false _ _ e)) (omega arith)
+module _ (alternates : ℕ) (chain main store : List ℕ) (u : Record) (map answers : List ℕ) where
+  few-reached : call alternates chain main store u map answers .reached ≤ 32
+  few-reached = go (eqb (firstOf (callCauses (classA alternates) chain main store map answers)) 0) refl
+    where
+      go : (b : Bool) → eqb (firstOf (callCauses (classA alternates) chain main store map answers)) 0 ≡ b → call alternates chain main store u map answers .reached ≤ 32
+      go true e = omega (arith, callable (classA alternates) chain main store map answers (eqb-true _ _ e) .few, call-reached (classA alternates) chain main store u map answers .1)
+      go false e = rw (call-refused (classA alternates) chain main store u map answers _ refl (eqb-false _ _ e)) (omega arith)
 
-pub reached-few : (chain main store : List ℕ) (u : Record) (answers : List ℕ) (c : Called) → c ≡ call chain main store u answers → c .reached ≤ 32
-reached-few chain main store u answers c e = rw e (few-reached chain main store u answers)
+  pub reached-few : (c : Called) → c ≡ call alternates chain main store u map answers → c .reached ≤ 32
+  reached-few c e = rw e few-reached
 
-pub gives-outcome : (r : Record) (chain storage store answers : List ℕ) (c : Called) (code : ℕ) → c ≡ call chain storage store r answers → code ≡ resultOf (c .cause) (c .reached)
-    → record { unit = c .unit; code = code; storage = c .main; store = c .store; answers = c .answers } ≡ outcome r chain storage store answers
+pub gives-outcome : (r : UnitRecord) (alternates : ℕ) (chain storage store answers : List ℕ) (c : Called) (code : ℕ)
+    → c ≡ call alternates chain storage store (r .unit) (r .map) answers → code ≡ resultOf (c .cause) (c .reached)
+    → record { unit = record { unit = c .unit; map = c .map }; code = code; storage = c .main; store = c .store; answers = c .answers } ≡ outcome r alternates chain storage store answers
 unfolding outcome
-gives-outcome r chain storage store answers c code e f = rw f (ap given e)
+gives-outcome r alternates chain storage store answers c code e f = rw f (ap given e)

@@ -1,7 +1,7 @@
 -- A promise determines its result: two results that it allows are equal. One theorem for each form that a promise takes.
 --     same-by         a result that is named, `r ≡ f x`: most functions, and the call with every buffer in one record
 --     told-unique     a test that is true exactly where a fact holds
---     ends-unique     a command's ending with the two storages, `Ends u c s r main store ..`
+--     ends-unique     a command's ending with the two storages and the map, `Ends (holding u map) c s r main store ..`
 --     next-unique                       what is left of an area behind a piece
 --     decoded-unique                    the command that a CCW begins
 --     status-unique, channel-unique     a status that is known by its byte
@@ -21,16 +21,23 @@ use Rattle.model.specs.declared.decoded.Decoded.{Decoded}
 use Rattle.model.specs.Pieces.{Command, pieces, commandsFrom, total, final}
 use Rattle.model.specs.Decoded.{laterOf, areaOf, commandOf, Stands, Decodes}
 use Rattle.model.specs.declared.record.Record.{Record}
+use Rattle.model.specs.declared.record.UnitRecord.{UnitRecord}
 use Rattle.model.specs.declared.record.Counts.{Counts}
 use Rattle.model.specs.Log.{logOf}
 use Rattle.model.specs.declared.status.UnitStatus.{UnitStatus}
 use Rattle.model.specs.declared.status.ChannelStatus.{ChannelStatus}
-use Rattle.model.specs.Commands.{Out}
+use Rattle.model.specs.Commands.{Out, after}
 use Rattle.model.specs.declared.device.Device.{Device}
-use Rattle.model.specs.Chain.{System, called}
+use Rattle.model.specs.State.{State}
+use Rattle.model.specs.Causes.{kindOf}
+use Rattle.model.specs.Chain.{System, Called, called}
 use Rattle.log.specs.declared.Log.{Log}
 use Rattle.log.specs.Counts.{counted}
+use Rattle.model.proofs.Leaving.{leaves-ind}
+use Rattle.sense_table.specs.Sensed.{senseBytes}
 use Rattle.unit_state.specs.declared.Running.{Running}
+use Rattle.unit_state.specs.declared.Left.{Left}
+use Rattle.unit_state.specs.Standing.{holding, stateOf, stateLeft}
 use Rattle.endings.specs.declared.Ended.{Ended}
 use Rattle.endings.specs.Ending.{Ends}
 use Rattle.chain.specs.declared.run.Walked.{Walked}
@@ -49,16 +56,25 @@ told-unique P true false f g = sym (g .1 (f .0 refl))
 told-unique P false true f g = f .1 (g .0 refl)
 told-unique P false false f g = refl
 
--- the ending of a command: the state, the cause, its sense, the answer, the bytes moved, the wrong length, and both storages
-pub record SameEnding (d e : Ended) (main main′ store store′ : List ℕ) : Type 0 where
+-- the map that a `Left` stands for is the one that is lent
+map-left : (u : Record) (map : List ℕ) (l : Left) → stateLeft (holding u map) l .map ≡ map
+unfolding stateOf after
+map-left u map l = leaves-ind (λ (t : State). t .map ≡ map) (kindOf (l .cause)) (stateOf (holding u map) (l .state)) (senseBytes (l .sense)) refl refl refl
+
+maps-same : (u : Record) (map map′ : List ℕ) (l k : Left) → stateLeft (holding u map) l ≡ stateLeft (holding u map′) k → map ≡ map′
+maps-same u map map′ l k e = sym (map-left u map l) ∙ ap (λ (t : State). t .map) e ∙ map-left u map′ k
+
+-- the ending of a command: the state, the cause, its sense, the answer, the bytes moved, the wrong length, both storages and the map
+pub record SameEnding (d e : Ended) (main main′ store store′ map map′ : List ℕ) : Type 0 where
   pub ended : d ≡ e
   pub main-same : main ≡ main′
   pub store-same : store ≡ store′
+  pub map-same : map ≡ map′
 
-pub ends-unique : (o : Out) (u : Record) (c : Command) (s : Running) (d e : Ended) (main main′ store store′ : List ℕ) → Ends u c s d main store o → Ends u c s e main′ store′ o
-    → SameEnding d e main main′ store store′
-ends-unique o u c s d e main main′ store store′ p q =
-    let left = left-known u c s (d .left) o (p .left) ∙ sym (left-known u c s (e .left) o (q .left)) in
+pub ends-unique : (o : Out) (u : Record) (c : Command) (s : Running) (d e : Ended) (main main′ store store′ map map′ : List ℕ) → Ends (holding u map) c s d main store o → Ends (holding u map′) c s e main′ store′ o
+    → SameEnding d e main main′ store store′ map map′
+ends-unique o u c s d e main main′ store store′ map map′ p q =
+    let left = left-known (holding u map) c s (d .left) o (p .left) ∙ sym (left-known (holding u map′) c s (e .left) o (q .left)) in
     let answer = p .answer ∙ sym (q .answer) in
     let moved = p .moved ∙ sym (q .moved) in
     let wrong = p .wrong ∙ sym (q .wrong) in
@@ -66,6 +82,7 @@ ends-unique o u c s d e main main′ store store′ p q =
       ended = λ i. record { left = left i; answer = answer i; moved = moved i; wrong = wrong i };
       main-same = p .main-same ∙ sym (q .main-same);
       store-same = p .store-same ∙ sym (q .store-same);
+      map-same = maps-same u map map′ (d .left) (e .left) (p .left .state ∙ sym (q .left .state));
     }
 
 -- what is left of an area is known by its pieces, how many there are behind the first, and the CCW where it ends
@@ -111,26 +128,31 @@ pub log-unique : (k : Counts) (a b : Log) → ((u : Record) → a .0 ≡ logOf (
 log-unique k a b p q = λ i. record { 0 = same-by (a .0) (b .0) (logOf (counted (newRecord 0 0) k)) (p (newRecord 0 0)) (q (newRecord 0 0)) i }
 
 -- the run of a chain: what is left, the commands reached, and what was lent
-pub record SameWalk (v w : Walked) (main main′ store store′ answers answers′ : List ℕ) : Type 0 where
+pub record SameWalk (v w : Walked) (main main′ store store′ map map′ answers answers′ : List ℕ) : Type 0 where
   pub walked : v ≡ w
   pub main-same : main ≡ main′
   pub store-same : store ≡ store′
+  pub map-same : map ≡ map′
   pub answers-same : answers ≡ answers′
 
-module _ (u : Record) (v w : Walked) (m₁ s₁ a₁ m₂ s₂ a₂ : List ℕ) where
-  same-walk : called 0 (systemLeft u (v .left) m₁ s₁ a₁ (v .reached)) ≡ called 0 (systemLeft u (w .left) m₂ s₂ a₂ (w .reached)) → v .left ≡ w .left → SameWalk v w m₁ m₂ s₁ s₂ a₁ a₂
+module _ (u : Record) (v w : Walked) (m₁ s₁ p₁ a₁ m₂ s₂ p₂ a₂ : List ℕ) where
+  same-walk : called 0 (systemLeft (holding u p₁) (v .left) m₁ s₁ a₁ (v .reached)) ≡ called 0 (systemLeft (holding u p₂) (w .left) m₂ s₂ a₂ (w .reached)) → v .left ≡ w .left
+      → SameWalk v w m₁ m₂ s₁ s₂ p₁ p₂ a₁ a₂
   same-walk e f = record {
     walked = λ i. record { left = f i; reached = e i .reached };
     main-same = λ i. e i .main;
     store-same = λ i. e i .store;
+    map-same = sym (map-left u p₁ (v .left)) ∙ ap (λ (c : Called). c .map) e ∙ map-left u p₂ (w .left);
     answers-same = λ i. e i .answers;
   }
 
-  pub walks-unique : (dev : Device) (chain : List ℕ) (s : Running) (y : System) → Walks dev chain u s y v m₁ s₁ a₁ → Walks dev chain u s y w m₂ s₂ a₂ → SameWalk v w m₁ m₂ s₁ s₂ a₁ a₂
+  pub walks-unique : (dev : Device) (chain : List ℕ) (s : Running) (y : System) → Walks dev chain (holding u p₁) s y v m₁ s₁ a₁ → Walks dev chain (holding u p₂) s y w m₂ s₂ a₂
+      → SameWalk v w m₁ m₂ s₁ s₂ p₁ p₂ a₁ a₂
   walks-unique dev chain s y p q = same-walk (ap (called 0) (p .after ∙ sym (q .after))) (p .left ∙ sym (q .left))
 
-  pub allowed-unique : (dev : Device) (chain main store answers : List ℕ) → Allowed dev u chain main store answers v m₁ s₁ a₁ → Allowed dev u chain main store answers w m₂ s₂ a₂ → SameWalk v w m₁ m₂ s₁ s₂ a₁ a₂
-  allowed-unique dev chain main store answers p q = same-walk (p .after ∙ sym (q .after)) (p .left ∙ sym (q .left))
+  pub allowed-unique : (dev : Device) (chain main store map answers : List ℕ) → Allowed dev u chain main store map answers v m₁ s₁ p₁ a₁ → Allowed dev u chain main store map answers w m₂ s₂ p₂ a₂
+      → SameWalk v w m₁ m₂ s₁ s₂ p₁ p₂ a₁ a₂
+  allowed-unique dev chain main store map answers p q = same-walk (p .after ∙ sym (q .after)) (p .left ∙ sym (q .left))
 
 pub record SameRun (v w : Ran) (storage storage′ store store′ answers answers′ : List ℕ) : Type 0 where
   pub unit-same : v .unit ≡ w .unit
@@ -139,9 +161,9 @@ pub record SameRun (v w : Ran) (storage storage′ store store′ answers answer
   pub store-same : store ≡ store′
   pub answers-same : answers ≡ answers′
 
-pub by-value-unique : (r : Record) (chain m s a : List ℕ) (v w : Ran) (m₁ s₁ a₁ m₂ s₂ a₂ : List ℕ)
-    → ByValue r chain m s a v m₁ s₁ a₁ → ByValue r chain m s a w m₂ s₂ a₂ → SameRun v w m₁ m₂ s₁ s₂ a₁ a₂
-by-value-unique r chain m s a v w m₁ s₁ a₁ m₂ s₂ a₂ p q =
+pub by-value-unique : (r : UnitRecord) (alternates : ℕ) (chain m s a : List ℕ) (v w : Ran) (m₁ s₁ a₁ m₂ s₂ a₂ : List ℕ)
+    → ByValue r alternates chain m s a v m₁ s₁ a₁ → ByValue r alternates chain m s a w m₂ s₂ a₂ → SameRun v w m₁ m₂ s₁ s₂ a₁ a₂
+by-value-unique r alternates chain m s a v w m₁ s₁ a₁ m₂ s₂ a₂ p q =
     let e = p .is ∙ sym (q .is) in
     record {
       unit-same = λ i. e i .unit;
@@ -151,7 +173,7 @@ by-value-unique r chain m s a v w m₁ s₁ a₁ m₂ s₂ a₂ p q =
       answers-same = λ i. e i .answers;
     }
 
-pub in-place-unique : (r : Record) (chain m s a : List ℕ) (c d : ℕ) (u v : Record) (m₁ s₁ a₁ m₂ s₂ a₂ : List ℕ)
-    → InPlace r chain m s a c u m₁ s₁ a₁ → InPlace r chain m s a d v m₂ s₂ a₂ → SameRun (record { unit = u; code = c }) (record { unit = v; code = d }) m₁ m₂ s₁ s₂ a₁ a₂
-in-place-unique r chain m s a c d u v m₁ s₁ a₁ m₂ s₂ a₂ p q =
-    by-value-unique r chain m s a (record { unit = u; code = c }) (record { unit = v; code = d }) m₁ s₁ a₁ m₂ s₂ a₂ (record { is = p .is }) (record { is = q .is })
+pub in-place-unique : (r : UnitRecord) (alternates : ℕ) (chain m s a : List ℕ) (c d : ℕ) (u v : UnitRecord) (m₁ s₁ a₁ m₂ s₂ a₂ : List ℕ)
+    → InPlace r alternates chain m s a c u m₁ s₁ a₁ → InPlace r alternates chain m s a d v m₂ s₂ a₂ → SameRun (record { unit = u; code = c }) (record { unit = v; code = d }) m₁ m₂ s₁ s₂ a₁ a₂
+in-place-unique r alternates chain m s a c d u v m₁ s₁ a₁ m₂ s₂ a₂ p q =
+    by-value-unique r alternates chain m s a (record { unit = u; code = c }) (record { unit = v; code = d }) m₁ s₁ a₁ m₂ s₂ a₂ (record { is = p .is }) (record { is = q .is })

@@ -6,26 +6,26 @@
 use Prim.Native.Nat.{ℕ}
 use mathlib.Core.Path.{_≡_}
 use mathlib.Core.List.{List}
-use Rattle.model.specs.declared.record.Record.{Record}
+use Rattle.model.specs.declared.record.UnitRecord.{UnitRecord}
 use Rattle.model.specs.Chain.{Called, call}
 use Rattle.model.specs.Host.{resultOf}
 use Rattle.in_place.specs.declared.Ran.{Ran}
 
 pub record Outcome : Type 0 where
-  pub unit : Record
+  pub unit : UnitRecord
   pub code : ℕ
   pub storage : List ℕ
   pub store : List ℕ
   pub answers : List ℕ
 
 abbrev pub given : Called → Outcome
-given c = record { unit = c .unit; code = resultOf (c .cause) (c .reached); storage = c .main; store = c .store; answers = c .answers }
+given c = record { unit = record { unit = c .unit; map = c .map }; code = resultOf (c .cause) (c .reached); storage = c .main; store = c .store; answers = c .answers }
 
-unfoldable pub outcome : Record → List ℕ → List ℕ → List ℕ → List ℕ → Outcome
-outcome r chain storage store answers = given (call chain storage store r answers)
+unfoldable pub outcome : UnitRecord → ℕ → List ℕ → List ℕ → List ℕ → List ℕ → Outcome
+outcome r alternates chain storage store answers = given (call alternates chain storage store (r .unit) (r .map) answers)
 
-pub record ByValue (r : Record) (chain storage store answers : List ℕ) (w : Ran) (storage′ store′ answers′ : List ℕ) : Type 0 where
-  pub is : record { unit = w .unit; code = w .code; storage = storage′; store = store′; answers = answers′ } ≡ outcome r chain storage store answers
+pub record ByValue (r : UnitRecord) (alternates : ℕ) (chain storage store answers : List ℕ) (w : Ran) (storage′ store′ answers′ : List ℕ) : Type 0 where
+  pub is : record { unit = w .unit; code = w .code; storage = storage′; store = store′; answers = answers′ } ≡ outcome r alternates chain storage store answers
 
-pub record InPlace (r : Record) (chain storage store answers : List ℕ) (c : ℕ) (r′ : Record) (storage′ store′ answers′ : List ℕ) : Type 0 where
-  pub is : record { unit = r′; code = c; storage = storage′; store = store′; answers = answers′ } ≡ outcome r chain storage store answers
+pub record InPlace (r : UnitRecord) (alternates : ℕ) (chain storage store answers : List ℕ) (c : ℕ) (r′ : UnitRecord) (storage′ store′ answers′ : List ℕ) : Type 0 where
+  pub is : record { unit = r′; code = c; storage = storage′; store = store′; answers = answers′ } ≡ outcome r alternates chain storage store answers

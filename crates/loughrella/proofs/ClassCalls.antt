@@ -13,10 +13,10 @@ use Rattle.model.proofs.Class.{class-refused}
 use Rattle.model.proofs.OneByOne.{class-marked}
 
 -- p is what the call gave
-module _ (bytes main store unit results : List ℕ) (p : ClassRun) (e : p ≡ runClass bytes main store unit results) where
+module _ (alternates : ℕ) (bytes main store unit results : List ℕ) (p : ClassRun) (e : p ≡ runClass alternates bytes main store unit results) where
   pub class-of-calls : (chains : List (List ℕ)) → chainsIn bytes ≡ some chains → resultsOf chains ≤ length results
-      → (p .result ≡ resultOf 0 0) × OneByOne classA chains (record { main = main; store = store; unit = unit }) results (p .left)
-  class-of-calls chains c h = rw e (class-marked classA bytes main store unit results chains c h)
+      → (p .result ≡ resultOf 0 0) × OneByOne (classA alternates) chains (record { main = main; store = store; unit = unit }) results (p .left)
+  class-of-calls chains c h = rw e (class-marked (classA alternates) bytes main store unit results chains c h)
 
   pub class-left : badClass (chainsIn bytes) (length results) ≡ true → p ≡ record { result = resultOf 7 0; left = record { main = main; store = store; unit = unit; results = results } }
-  class-left b = e ∙ class-refused classA bytes main store unit results b
+  class-left b = e ∙ class-refused (classA alternates) bytes main store unit results b

@@ -1,60 +1,158 @@
 -- The call from C, from the run of the library.
 --     first-found, six-found, none-found
 --                      the first of 1 to 6, by what the code looked at: one of 1 to 5, else the length of the record
---     refused-hosted   one holds: refused, and nothing changed
---     ran-hosted       none does: the run on the record that the bytes hold, and what it left packed again
+--     record-taken     the record stands in the first 34 bytes; new-stored   and one that is set up
+--     sized            none of them holds: none of 1 to 5 does, and there are 290 bytes of record
+--     map-lent         and the map is lent as the bytes behind the first 34
+--     refused-sized, refused-map
+--                      one of them holds, or 8 does: refused, and nothing changed
+--     may-run          none does, and the call may run
+--     ran-hosted       the run on the record that the bytes hold, and what it left packed again
 --     few-hosted       the commands reached fit their number
 --     reached-unique   what `run_hosted` promises allows one result
 -- No contract cites this file.
-use Prim.Native.Nat.{ℕ, _≤_}
-use mathlib.Core.Path.{_≡_, sym, ap, _∙_}
-use mathlib.Core.List.{List}
-use lib.ListN.{length}
+use Prim.Native.Nat.{ℕ, _+_, _-_, _≤_}
+use mathlib.Core.Path.{_≡_, refl, sym, ap, _∙_}
+use mathlib.Core.Bool.{not}
+use mathlib.Core.List.{List, [], _∷_, _++_}
+use lib.ListN.{length, take, drop, length-drop}
+use lib.Seq.{take-take, take-all, take-at, length-take-le, getD-take}
 use native.Mathlib.Omega.{arith}
-use borrow.Author.Tests.{eq-eqb, ne-eqb}
-use Rattle.model.specs.declared.record.Record.{Record}
-use Rattle.numbers.specs.Choice.{pick}
-use Rattle.numbers.proofs.Choice.{pick-false}
-use Rattle.model.specs.Rules.{firstOf}
-use Rattle.model.specs.Lent.{recordSize, recordBytes, recordOf}
-use Rattle.model.specs.Causes.{callCauses, hostCauses}
-use Rattle.model.specs.Chain.{Called, classA, call}
-use Rattle.model.specs.Host.{resultOf, hosted, hostCall}
+use borrow.Author.Tests.{eq-eqb, ne-eqb, eqb-true, not-false}
+use borrow.Rule.Slice.PartMut.{midOf, putMid}
+use Rattle.numbers.specs.Choice.{_=?_, pick}
+use Rattle.numbers.proofs.Choice.{pick-ind, pick-true, pick-false}
+use Rattle.slices.specs.Parts.{zeros, part, put, pad}
+use Rattle.slices.proofs.Laws.{rest-lent, rest-back, drop-take, pad-cleared}
+use Rattle.model.specs.declared.device.Device.{Device}
+use Rattle.model.specs.Rules.{_when_, firstOf}
+use Rattle.model.specs.Alternates.{mapSize}
+use Rattle.model.specs.Lent.{mapPlace, recordSize, unitBytes, recordOf, mapOf, newMap}
+use Rattle.model.specs.Causes.{lentCauses, mapCauses, callCauses, hostCauses}
+use Rattle.model.specs.Chain.{Called, callOf}
+use Rattle.model.specs.Host.{resultOf, hosted, hostCallOf}
+use Rattle.model.proofs.Verdicts.{first-append, failed-upto, failed-all, none-given}
 use Rattle.model.proofs.Endings.{callable, call-reached}
 use Rattle.model.proofs.Refusals.{host-refused}
 use Rattle.model.proofs.Hosts.{host-verdict, host-is-call}
+use Rattle.unit_state.specs.declared.Left.{Left}
+use Rattle.unit_state.specs.Standing.{unitLeft}
+use Rattle.loughrella.specs.Sized.{sizedCauses}
 
-module _ (chain storage store unit answers : List ℕ) where
-  abbrev called : ℕ
-  called = firstOf (callCauses classA chain storage store answers)
+-- the record stands in the first 34 bytes
+pub record-taken : (l : List ℕ) → recordOf (take mapPlace l) ≡ recordOf l
+unfolding recordOf part
+record-taken l =
+    let field : (at n : ℕ) → at + n ≤ mapPlace → take n (drop at (take mapPlace l)) ≡ take n (drop at l) = λ at n h. ap (take n) (drop-take at mapPlace l) ∙ take-take n (mapPlace - at) (drop at l) (omega (arith, h)) in
+    λ i. record {
+      sense = field 0 24 (omega arith) i;
+      «blocks_read» = field 24 3 (omega arith) i;
+      «blocks_written» = field 27 3 (omega arith) i;
+      movements = field 30 2 (omega arith) i;
+      ready = getD-take mapPlace l 32 0 (omega arith) i;
+      «read_only» = getD-take mapPlace l 33 0 (omega arith) i;
+    }
 
-  abbrev verdict : ℕ
-  verdict = firstOf (hostCauses classA chain storage store unit answers)
+-- the first 34 bytes are a new record's, and those behind are cleared
+pub new-stored : (unit front back : List ℕ) → length unit ≡ recordSize → length front ≡ mapPlace → let bytes = front ++ drop mapPlace unit in back ≡ zeros (length (midOf mapPlace (length bytes - mapPlace) bytes))
+    → putMid mapPlace (length bytes - mapPlace) bytes back ≡ front ++ newMap
+unfolding put pad
+new-stored unit front back e f b =
+    let stored : front ++ drop mapPlace unit ≡ put unit 0 front = rw f in
+    let padded : pad (length unit) front ≡ front ++ newMap = rw (e, f) (ap (λ (l : List ℕ). l ++ newMap) (take-all recordSize front (omega (arith, f)))) in
+    pad-cleared unit front (front ++ drop mapPlace unit) back mapPlace f (omega (arith, e)) stored b ∙ padded
 
-  pub first-found : (cause : ℕ) → cause ≡ called → (cause ≡ 0 → ⊥) → cause ≡ verdict
-  first-found cause e n = sym (host-verdict classA chain storage store unit answers ∙ rw (← e) (pick-false _ _ _ (ne-eqb _ _ n)))
+module _ (dev : Device) (chain storage store unit answers : List ℕ) where
+  abbrev lent : ℕ
+  lent = firstOf (lentCauses dev chain storage store answers)
 
-  pub six-found : called ≡ 0 → (length unit ≡ recordSize → ⊥) → 6 ≡ verdict
+  abbrev sized-verdict : ℕ
+  sized-verdict = firstOf (sizedCauses dev chain storage store unit answers)
+
+  abbrev map-verdict : ℕ
+  map-verdict = firstOf (mapCauses dev store (mapOf unit))
+
+  sized-is : sized-verdict ≡ pick (lent =? 0) (pick (not (length unit =? recordSize)) 6 0) lent
+  unfolding lentCauses firstOf
+  sized-is = first-append (lentCauses dev chain storage store answers) (6 when not (length unit =? recordSize) ∷ []) refl
+
+  pub first-found : (cause : ℕ) → cause ≡ lent → (cause ≡ 0 → ⊥) → cause ≡ sized-verdict
+  first-found cause e n = sym (sized-is ∙ rw (← e) (pick-false _ _ _ (ne-eqb _ _ n)))
+
+  pub six-found : lent ≡ 0 → (length unit ≡ recordSize → ⊥) → 6 ≡ sized-verdict
   unfolding pick
-  six-found e n = sym (host-verdict classA chain storage store unit answers ∙ rw (e, ne-eqb _ _ n))
+  six-found e n = sym (sized-is ∙ rw (e, ne-eqb _ _ n))
 
-  pub none-found : called ≡ 0 → length unit ≡ recordSize → 0 ≡ verdict
+  pub none-found : lent ≡ 0 → length unit ≡ recordSize → 0 ≡ sized-verdict
   unfolding pick
-  none-found e l = sym (host-verdict classA chain storage store unit answers ∙ rw (e, eq-eqb _ _ l))
+  none-found e l = sym (sized-is ∙ rw (e, eq-eqb _ _ l))
 
-  pub refused-hosted : (cause result : ℕ) → cause ≡ verdict → (cause ≡ 0 → ⊥) → result ≡ resultOf cause 0
-      → record { result = result; main = storage; store = store; unit = unit; answers = answers } ≡ hostCall chain storage store unit answers
-  refused-hosted cause result e n r = rw r (sym (host-refused classA chain storage store unit answers cause (sym e) n))
+  pub sized : sized-verdict ≡ 0 → (lent ≡ 0) × (length unit ≡ recordSize)
+  unfolding lentCauses
+  sized e =
+      let f = failed-upto 0 (lentCauses dev chain storage store answers) _ refl e in
+      (none-given _ (f .0), eqb-true _ _ (not-false _ (failed-all 0 _ refl (f .1) .0)))
 
-  pub ran-hosted : (u left : Record) (reached : ℕ) (m s a bytes : List ℕ) → length unit ≡ recordSize → u ≡ recordOf unit
-      → record { cause = 0; reached = reached; unit = left; main = m; store = s; answers = a } ≡ call chain storage store u answers → bytes ≡ recordBytes left
-      → record { result = resultOf 0 reached; main = m; store = s; unit = bytes; answers = a } ≡ hostCall chain storage store unit answers
-  ran-hosted u left reached m s a bytes l e h b = rw (b, host-is-call classA chain storage store unit answers l, ← e) (ap hosted h)
+  -- a verdict of 1 to 6 is the call's
+  refused-first : (cause : ℕ) → cause ≡ sized-verdict → (cause ≡ 0 → ⊥) → firstOf (hostCauses dev chain storage store unit answers) ≡ cause
+  refused-first cause e n =
+      host-verdict dev chain storage store unit answers
+      ∙ pick-ind (λ (v : ℕ). v ≡ cause) (lent =? 0) _ lent
+      (λ none.
+      pick-ind (λ (v : ℕ). v ≡ cause) (not (length unit =? recordSize)) 6 map-verdict
+      (λ other. sym (e ∙ sized-is ∙ pick-true _ _ _ none ∙ pick-true _ _ _ other))
+      (λ same. absurd (n (e ∙ sized-is ∙ pick-true _ _ _ none ∙ pick-false _ _ _ same))))
+      (λ some. sym (e ∙ sized-is ∙ pick-false _ _ _ some))
 
-  pub few-hosted : (u : Record) (c : Called) → called ≡ 0 → c ≡ call chain storage store u answers → c .reached ≤ 32
-  few-hosted u c e h = rw h (omega (arith, callable classA chain storage store answers e .few, call-reached classA chain storage store u answers .1))
+  pub refused-sized : (cause result : ℕ) → cause ≡ sized-verdict → (cause ≡ 0 → ⊥) → result ≡ resultOf cause 0
+      → record { result = result; main = storage; store = store; unit = unit; answers = answers } ≡ hostCallOf dev chain storage store unit answers
+  refused-sized cause result e n r = rw r (sym (host-refused dev chain storage store unit answers cause (refused-first cause e n) n))
 
--- the call's one number determines the commands reached: what `run_hosted` promises allows one result
-pub reached-unique : (result r q : ℕ) → resultOf 0 r ≡ result → resultOf 0 q ≡ result → r ≡ q
+  -- the map as it is lent
+  module _ (passed : sized-verdict ≡ 0) where
+    abbrev map : List ℕ
+    map = midOf mapPlace (length unit - mapPlace) unit
+
+    pub map-lent : map ≡ mapOf unit
+    unfolding mapOf part
+    map-lent = rest-lent unit mapPlace ∙ sym (take-all mapSize (drop mapPlace unit) (omega (arith, length-drop mapPlace unit, sized passed .1)))
+
+    pub map-whole : length map ≡ mapSize
+    map-whole = ap length (rest-lent unit mapPlace) ∙ length-drop mapPlace unit ∙ omega (arith, sized passed .1)
+
+    behind-six : firstOf (hostCauses dev chain storage store unit answers) ≡ map-verdict
+    unfolding pick
+    behind-six = host-verdict dev chain storage store unit answers ∙ rw (sized passed .0, eq-eqb _ _ (sized passed .1))
+
+    pub refused-map : (cause : ℕ) → cause ≡ firstOf (mapCauses dev store map) → (cause ≡ 0 → ⊥)
+        → record { result = resultOf cause 0; main = storage; store = store; unit = unit; answers = answers } ≡ hostCallOf dev chain storage store unit answers
+    refused-map cause e n = sym (host-refused dev chain storage store unit answers cause (behind-six ∙ sym (rw map-lent at e)) n)
+
+    pub may-run : firstOf (mapCauses dev store map) ≡ 0 → firstOf (callCauses dev chain storage store map answers) ≡ 0
+    unfolding callCauses lentCauses
+    may-run e = first-append (lentCauses dev chain storage store answers) (mapCauses dev store map) refl ∙ pick-true _ _ _ (eq-eqb _ _ (sized passed .0)) ∙ e
+
+    -- what stands before the map stays while the chain runs
+    module _ (map′ : List ℕ) where
+      abbrev between : List ℕ
+      between = putMid mapPlace (length unit - mapPlace) unit map′
+
+      same-record : recordOf (take mapPlace between) ≡ recordOf unit
+      same-record = ap recordOf (take-at (take mapPlace unit) _ mapPlace (length-take-le mapPlace unit (omega (arith, sized passed .1)))) ∙ record-taken unit
+
+      map-behind : drop mapPlace between ≡ map′
+      map-behind = rest-back unit map′ mapPlace (omega (arith, sized passed .1))
+
+      pub ran-hosted : (l : Left) (reached : ℕ) (m s a packed : List ℕ)
+          → record { cause = 0; reached = reached; unit = unitLeft (recordOf unit) l; map = map′; main = m; store = s; answers = a } ≡ callOf dev chain storage store (recordOf unit) map answers
+          → packed ≡ unitBytes (unitLeft (recordOf (take mapPlace between)) l)
+          → record { result = resultOf 0 reached; main = m; store = s; unit = packed ++ drop mapPlace between; answers = a } ≡ hostCallOf dev chain storage store unit answers
+      ran-hosted l reached m s a packed h b = rw (b, same-record, map-behind, host-is-call dev chain storage store unit answers (sized passed .1), ← map-lent) (ap hosted h)
+
+    pub few-hosted : (c : Called) → firstOf (callCauses dev chain storage store map answers) ≡ 0 → c ≡ callOf dev chain storage store (recordOf unit) map answers → c .reached ≤ 32
+    few-hosted c e h = rw h (omega (arith, callable dev chain storage store map answers e .few, call-reached dev chain storage store (recordOf unit) map answers .1))
+
+-- the call's one number determines the cause and the commands reached: what `run_hosted` promises allows one result
+pub reached-unique : (result cause r cause′ q : ℕ) → resultOf cause r ≡ result → resultOf cause′ q ≡ result → r ≤ 32 → q ≤ 32 → (cause ≡ cause′) × (r ≡ q)
 unfolding resultOf
-reached-unique result r q e f = omega arith
+reached-unique result cause r cause′ q e f l k = (omega arith, omega arith)

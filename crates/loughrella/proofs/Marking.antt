@@ -1,7 +1,7 @@
 -- One chain of a class is marked, and then another.
 --     head-put          a result's first four bytes, one by one
 --     refused-marked, ran-marked
---                       a chain that is refused as a whole, and one that is run: the head, and the answers behind it
+--                       a chain that one of causes 1 to 6 refuses, and one that none of them does: the head, and the answers behind it
 --     Marking           those ahead, marked behind the results so far, are the whole class marked
 --     marking-none, marking-more, marked-all
 --                       before the first turn, after one more, and at the end
@@ -20,14 +20,14 @@ use borrow.Rule.Slice.PartMut.{midOf, putMid}
 use Rattle.numbers.specs.Big.{be2, bytes2}
 use Rattle.slices.specs.Parts.{part, put}
 use Rattle.slices.proofs.Laws.{rest-lent, rest-back, length-put, take-put, drop-put, part-drop, length-part, part-lent, put-lent-whole}
+use Rattle.model.specs.declared.device.Device.{Device}
 use Rattle.model.specs.Rules.{firstOf}
-use Rattle.model.specs.Causes.{hostCauses}
-use Rattle.model.specs.Chain.{classA}
-use Rattle.model.specs.Host.{Hosted, resultOf, hostCall}
+use Rattle.model.specs.Host.{Hosted, resultOf, hostCallOf}
 use Rattle.model.specs.Class.{headSize, lengthSize, resultSize, resultHead, Marked, behind, markOf, markEachOf, chainsIn, badClass}
-use Rattle.model.proofs.Refusals.{host-refused}
 use Rattle.model.proofs.Hosts.{result-reads}
 use Rattle.model.proofs.Class.{FirstIn, right-first, mark-next, chains-none}
+use Rattle.loughrella.specs.Sized.{sizedCauses}
+use Rattle.loughrella.proofs.Hosted.{refused-sized}
 use Rattle.loughrella.proofs.ClassCauses.{here, behind-it}
 
 pub head-put : (l : List ℕ) (cause reached : ℕ) → headSize ≤ length l → cause < 256 → reached ≤ 32
@@ -43,38 +43,38 @@ head-put (a ∷ b ∷ d ∷ e ∷ l) cause reached h c r =
     let low : reached % 256 ≡ reached = omega arith in
     rw (cause-high, cause-low, high, low)
 
-module _ (chain main store unit to : List ℕ) where
+module _ (dev : Device) (chain main store unit to : List ℕ) where
   -- the room, as it is lent
   abbrev room : List ℕ
   room = midOf headSize (length to - headSize) to
 
-  marked-as : (h : Hosted) (given : List ℕ) (cause reached : ℕ) → h ≡ hostCall chain main store unit room → h .result ≡ resultOf cause reached → reached ≤ 32
+  marked-as : (h : Hosted) (given : List ℕ) (cause reached : ℕ) → h ≡ hostCallOf dev chain main store unit room → h .result ≡ resultOf cause reached → reached ≤ 32
       → given ≡ (bytes2 cause ++ bytes2 reached) ++ h .answers
-      → record { main = h .main; store = h .store; unit = h .unit; results = given } ≡ markOf classA chain main store unit to
+      → record { main = h .main; store = h .store; unit = h .unit; results = given } ≡ markOf dev chain main store unit to
   unfolding markOf resultHead
   marked-as h given cause reached e r few g =
-      let called : h ≡ hostCall chain main store unit (drop headSize to) = e ∙ ap (hostCall chain main store unit) (rest-lent to headSize) in
+      let called : h ≡ hostCallOf dev chain main store unit (drop headSize to) = e ∙ ap (hostCallOf dev chain main store unit) (rest-lent to headSize) in
       let reads = result-reads cause reached (omega arith) in
       rw (← called, g, r, reads .0, reads .1)
 
-  pub refused-marked : (cause : ℕ) (given : List ℕ) → cause ≡ firstOf (hostCauses classA chain main store unit room) → (cause ≡ 0 → ⊥)
+  pub refused-marked : (cause : ℕ) (given : List ℕ) → cause ≡ firstOf (sizedCauses dev chain main store unit room) → (cause ≡ 0 → ⊥)
       → given ≡ (bytes2 cause ++ bytes2 0) ++ drop headSize to
-      → record { main = main; store = store; unit = unit; results = given } ≡ markOf classA chain main store unit to
+      → record { main = main; store = store; unit = unit; results = given } ≡ markOf dev chain main store unit to
   refused-marked cause given e n g =
-      marked-as _ given cause 0 (sym (host-refused classA chain main store unit room cause (sym e) n)) refl (omega arith)
+      marked-as _ given cause 0 (refused-sized dev chain main store unit room cause _ e n refl) refl (omega arith)
       (g ∙ ap (λ (l : List ℕ). (bytes2 cause ++ bytes2 0) ++ l) (sym (rest-lent to headSize)))
 
-  pub ran-marked : (reached : ℕ) (m s u a given : List ℕ) → record { result = resultOf 0 reached; main = m; store = s; unit = u; answers = a } ≡ hostCall chain main store unit room → reached ≤ 32
+  pub ran-marked : (cause reached : ℕ) (m s u a given : List ℕ) → record { result = resultOf cause reached; main = m; store = s; unit = u; answers = a } ≡ hostCallOf dev chain main store unit room → reached ≤ 32
       → headSize ≤ length to
-      → given ≡ (bytes2 0 ++ bytes2 reached) ++ drop headSize (putMid headSize (length to - headSize) to a)
-      → record { main = m; store = s; unit = u; results = given } ≡ markOf classA chain main store unit to
-  ran-marked reached m s u a given e few enough g =
-      marked-as _ given 0 reached e refl few (g ∙ ap (λ (l : List ℕ). (bytes2 0 ++ bytes2 reached) ++ l) (rest-back to a headSize enough))
+      → given ≡ (bytes2 cause ++ bytes2 reached) ++ drop headSize (putMid headSize (length to - headSize) to a)
+      → record { main = m; store = s; unit = u; results = given } ≡ markOf dev chain main store unit to
+  ran-marked cause reached m s u a given e few enough g =
+      marked-as _ given cause reached e refl few (g ∙ ap (λ (l : List ℕ). (bytes2 cause ++ bytes2 reached) ++ l) (rest-back to a headSize enough))
 
 -- the class as it was lent
-module _ (chains main₀ store₀ unit₀ results₀ : List ℕ) where
+module _ (dev : Device) (chains main₀ store₀ unit₀ results₀ : List ℕ) where
   abbrev markedFrom : ℕ → List ℕ → List ℕ → List ℕ → List ℕ → Marked
-  markedFrom at main store unit results = markEachOf classA (Option·getD (chainsIn (drop at chains)) []) main store unit results
+  markedFrom at main store unit results = markEachOf dev (Option·getD (chainsIn (drop at chains)) []) main store unit results
 
   pub record Marking (main store unit results : List ℕ) (at used : ℕ) : Type 0 where
     pub inside : at ≤ length chains
@@ -116,13 +116,13 @@ module _ (chains main₀ store₀ unit₀ results₀ : List ℕ) where
           omega (arith, b, k .room)
 
       marked-next : (m s u back : List ℕ)
-          → record { main = m; store = s; unit = u; results = back } ≡ markOf classA (part chains (at + lengthSize) (be2 chains at)) main store unit (part results used size)
+          → record { main = m; store = s; unit = u; results = back } ≡ markOf dev (part chains (at + lengthSize) (be2 chains at)) main store unit (part results used size)
           → length back ≡ size → Marking m s u (put results used back) (at + lengthSize + be2 chains at) (used + size)
       unfolding part
       marked-next m s u back e long =
           let kept : length (put results used back) ≡ length results = length-put results used back (omega (arith, next-room, long)) in
           let left : length (put results used back) - (used + size) ≡ length results - used - size = omega (arith, kept) in
-          let next = mark-next (drop at chains) (length results - used) some-ahead (k .right) classA main store unit (drop used results) in
+          let next = mark-next (drop at chains) (length results - used) some-ahead (k .right) dev main store unit (drop used results) in
           let marked = rw (behind-it chains at, here chains at, part-drop chains at lengthSize (be2 chains at), ← e) at next in
           record {
             inside = next-there;
@@ -149,7 +149,7 @@ module _ (chains main₀ store₀ unit₀ results₀ : List ℕ) where
         unfolding resultSize
         head-fits = rw lent-long (omega (arith, ln))
 
-        pub marking-more : (m s u back : List ℕ) → record { main = m; store = s; unit = u; results = back } ≡ markOf classA lentChain main store unit lentRoom
+        pub marking-more : (m s u back : List ℕ) → record { main = m; store = s; unit = u; results = back } ≡ markOf dev lentChain main store unit lentRoom
             → length back ≡ length lentRoom → Marking m s u (putMid used (used + n - used) results back) (at + lengthSize + len) (used + n)
         marking-more m s u back e long =
             let whole = put-lent-whole results back used n long enough in

@@ -2,6 +2,7 @@
 // `class_wrong` is cause 7's test, `mark_each` runs the chains of a class that it passed.
 use crate::host::host_cause;
 use crate::host::run_hosted;
+use model::device::Device;
 use model::sizes;
 use numbers::be2;
 ghost use mathlib.Core.Path.{_≡_};
@@ -11,8 +12,8 @@ ghost use mathlib.Core.List.{[], _++_};
 ghost use Prim.Native.Nat.{_≤_, _<_};
 ghost use lib.ListN.{length, drop};
 ghost use Rattle.numbers.specs.Big.{bytes2};
-ghost use Rattle.model.specs.Chain.{classA};
 ghost use Rattle.model.specs.Class.{headSize, resultSize, chainsIn, badClass, markOf, markEachOf};
+ghost use Rattle.model.specs.Safe.{Usable};
 
 // Bytes of a chain's length.
 const LENGTH: usize = 2;
@@ -65,31 +66,39 @@ fn put_head(cause: u8, reached: usize, to: &mut [u8])
 }
 
 // One chain is run; `to` is its part of the results.
-fn mark(chain: &[u8], storage: &mut [u8], store: &mut [u8], unit: &mut [u8], to: &mut [u8])
-    requires { ⌜ headSize ≤ length (now to) ⌝ }
+fn mark(
+    d: Device,
+    chain: &[u8],
+    storage: &mut [u8],
+    store: &mut [u8],
+    unit: &mut [u8],
+    to: &mut [u8],
+)
+    requires { ⌜ Usable d × (headSize ≤ length (now to)) ⌝ }
     ensures { λ _. ⌜ record { main = now (storage .exit); store = now (store .exit); unit = now (unit .exit); results = now (to .exit) }
-        ≡ markOf classA (now (chain .entry)) (now (storage .entry)) (now (store .entry)) (now (unit .entry)) (now (to .entry)) ⌝ }
+        ≡ markOf d (now (chain .entry)) (now (storage .entry)) (now (store .entry)) (now (unit .entry)) (now (to .entry)) ⌝ }
 {
-    let cause = host_cause(chain, storage, store, unit, &to[ANSWERS..]);
+    let cause = host_cause(d, chain, storage, store, unit, &to[ANSWERS..]);
     if cause != 0 {
         put_head(cause, 0, to);
         return;
     }
-    let reached = run_hosted(chain, storage, store, unit, &mut to[ANSWERS..]);
-    put_head(0, reached, to);
+    let reached = run_hosted(d, chain, storage, store, unit, &mut to[ANSWERS..]);
+    put_head(reached.cause, reached.answers, to);
 }
 
 // The chains of a class that is right are run, one after the other.
 pub fn mark_each(
+    d: Device,
     chains: &[u8],
     storage: &mut [u8],
     store: &mut [u8],
     unit: &mut [u8],
     results: &mut [u8],
 )
-    requires { ⌜ badClass (chainsIn (now chains)) (length (now results)) ≡ false ⌝ }
+    requires { ⌜ Usable d × (badClass (chainsIn (now chains)) (length (now results)) ≡ false) ⌝ }
     ensures { λ _. ⌜ record { main = now (storage .exit); store = now (store .exit); unit = now (unit .exit); results = now (results .exit) }
-        ≡ markEachOf classA (Option·getD (chainsIn (now (chains .entry))) []) (now (storage .entry)) (now (store .entry)) (now (unit .entry)) (now (results .entry)) ⌝ }
+        ≡ markEachOf d (Option·getD (chainsIn (now (chains .entry))) []) (now (storage .entry)) (now (store .entry)) (now (unit .entry)) (now (results .entry)) ⌝ }
 {
     let mut at = 0;
     let mut used = 0;
@@ -99,6 +108,7 @@ pub fn mark_each(
         let to = from + len;
         let end = used + result_size(len);
         mark(
+            d,
             &chains[from..to],
             storage,
             store,

@@ -8,9 +8,11 @@ use crate::class::mark_each;
 use crate::host::host_cause;
 use crate::host::run_hosted;
 use chain::call::result_of;
+use model::device::Device;
 use model::sizes;
 use record::new_record;
 use record::pack;
+use slices::clear;
 ghost use mathlib.Core.Path.{_≡_};
 ghost use Rattle.model.specs.Host.{hostCall, setUp};
 ghost use Rattle.model.specs.Class.{runClass};
@@ -21,18 +23,20 @@ pub extern "C" fn loughrella_run(
     chain: &[u8],
     storage: &mut [u8],
     store: &mut [u8],
+    alternates: u32,
     unit: &mut [u8],
     answers: &mut [u8],
 ) -> u32
     ensures { λ r. ⌜ record { result = r; main = now (storage .exit); store = now (store .exit); unit = now (unit .exit); answers = now (answers .exit) }
-        ≡ hostCall (now (chain .entry)) (now (storage .entry)) (now (store .entry)) (now (unit .entry)) (now (answers .entry)) ⌝ }
+        ≡ hostCall alternates (now (chain .entry)) (now (storage .entry)) (now (store .entry)) (now (unit .entry)) (now (answers .entry)) ⌝ }
 {
-    let cause = host_cause(chain, storage, store, unit, answers);
+    let d = Device::class_a(alternates);
+    let cause = host_cause(d, chain, storage, store, unit, answers);
     if cause != 0 {
         return result_of(cause, 0);
     }
-    let reached = run_hosted(chain, storage, store, unit, answers);
-    result_of(0, reached)
+    let reached = run_hosted(d, chain, storage, store, unit, answers);
+    result_of(reached.cause, reached.answers)
 }
 
 // A class is run: the chains of one buffer, one after the other. 0, or 256 times 7.
@@ -41,16 +45,24 @@ pub extern "C" fn loughrella_run_class(
     chains: &[u8],
     storage: &mut [u8],
     store: &mut [u8],
+    alternates: u32,
     unit: &mut [u8],
     results: &mut [u8],
 ) -> u32
     ensures { λ r. ⌜ record { result = r; left = record { main = now (storage .exit); store = now (store .exit); unit = now (unit .exit); results = now (results .exit) } }
-        ≡ runClass (now (chains .entry)) (now (storage .entry)) (now (store .entry)) (now (unit .entry)) (now (results .entry)) ⌝ }
+        ≡ runClass alternates (now (chains .entry)) (now (storage .entry)) (now (store .entry)) (now (unit .entry)) (now (results .entry)) ⌝ }
 {
     if class_wrong(chains, results.len()) {
         return result_of(7, 0);
     }
-    mark_each(chains, storage, store, unit, results);
+    mark_each(
+        Device::class_a(alternates),
+        chains,
+        storage,
+        store,
+        unit,
+        results,
+    );
     0
 }
 
@@ -59,9 +71,10 @@ pub extern "C" fn loughrella_run_class(
 pub extern "C" fn loughrella_record(unit: &mut [u8], ready: u8, read_only: u8) -> u32
     ensures { λ r. ⌜ record { result = r; unit = now (unit .exit) } ≡ setUp (now (unit .entry)) ready «read_only» ⌝ }
 {
-    if unit.len() != sizes::RECORD {
+    if unit.len() != sizes::UNIT_RECORD {
         return result_of(6, 0);
     }
-    pack(new_record(ready, read_only), unit);
+    pack(new_record(ready, read_only), &mut unit[..sizes::RECORD]);
+    clear(&mut unit[sizes::RECORD..]);
     0
 }

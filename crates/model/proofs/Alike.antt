@@ -1,16 +1,16 @@
 -- Demand 3, the relation: what two runs of one chain have in common between any two commands, where a data set was moved.
---     Place     where the parameters stand, the two extents, and the two stores as they were lent
+--     Place     where the parameters stand, the two extents, the map and the two stores as they were lent
 --     SoundPlace
 --               what holds of a place throughout
 --     States    the states are equal but for the extent's offset
 --     Mains     main storage is equal but for the offset's four bytes, and the parameters lie in it and are still there
---     Stores    the extent's blocks are equal, and no block outside it has changed
+--     Stores    of maps and stores: the maps are equal once the extent's blocks are named by displacement, the alternates are equal and so
+--               are the extent's blocks, and no block outside it has changed
 --     Outs      all three, and the numbers of the answer
--- Below them, that each is kept: by a record and a command before, by bytes put into main storage, by blocks written.
+-- Below them, that the first two are kept: by a record and a command before, by bytes put into main storage. AlikeStores has the third.
 -- No contract cites this file.
-use Prim.Native.Nat.{ℕ, _+_, _-_, _*_, _≤_, _<_}
+use Prim.Native.Nat.{ℕ, _+_, _-_, _≤_, _<_}
 use mathlib.Core.Path.{_≡_, refl, sym, ap, _∙_}
-use mathlib.Core.Logic.{_⊎_, inl, inr, ⊎-elim}
 use mathlib.Core.Bool.{true}
 use mathlib.Core.List.{List, [], _∷_}
 use lib.ListN.{length, getD, take, drop, length-take}
@@ -19,24 +19,22 @@ use Rattle.numbers.specs.Choice.{_<?_, pick}
 use Rattle.slices.specs.Parts.{part, put}
 use Rattle.model.specs.declared.ccw.Piece.{Piece}
 use Rattle.slices.proofs.Laws.{length-put, get-before, get-in, get-after, by-place, part-same}
-use Rattle.model.specs.declared.extent.Displacement.{Displacement}
 use Rattle.model.specs.declared.extent.Extent.{Extent}
-use Rattle.model.specs.declared.extent.Located.{Located}
 use Rattle.model.specs.declared.record.Record.{Record}
 use Rattle.model.specs.declared.state.Before.{Before}
 use Rattle.model.specs.declared.device.Device.{Device}
 use Rattle.model.specs.State.{State, Done}
-use Rattle.model.specs.Lent.{blockCount, blockAt, blocksFrom, blocksInto}
+use Rattle.model.specs.Alternates.{mapEntries, mapSize}
+use Rattle.model.specs.Lent.{blockCount}
 use Rattle.model.specs.Pieces.{Command, total, bytesIn, fetched, scattered}
-use Rattle.model.specs.Parameters.{extentLength, extentIn, address}
+use Rattle.model.specs.Parameters.{extentLength, extentIn}
 use Rattle.model.specs.Commands.{Out, after}
-use Rattle.model.specs.Safe.{InExtent}
 use Rattle.model.specs.Safe.{Inside}
-use Rattle.model.specs.Moved.{placeOf, Among, Off, ParametersLie, ParametersApart, SameButOffset, HasRoom, SameData, KeptOutside}
+use Rattle.model.specs.Moved.{placeOf, Among, Off, ParametersLie, ParametersApart, SameButOffset, HasRoom, SameMaps, SameAlternates, SameData, KeptOutside}
+use Rattle.model.specs.declared.extent.Displacement.{Displacement}
+use Rattle.model.proofs.AlikeMaps.{Spans}
 use Rattle.model.proofs.Pieces.{inside-same}
 use Rattle.model.proofs.Places.{parameter-at, parameters-same}
-use Rattle.model.proofs.Lengths.{blocks-into-length, in-store}
-use Rattle.model.proofs.Blocks.{blocks-from-same, block-kept, block-stored}
 
 -- a byte of the parameters that is none of the four
 pub parameter-same : (c : Command) (main main′ : List ℕ) → SameButOffset c main main′ → ParametersLie c main → ParametersApart c → (i : ℕ) → i < extentLength → (Among 4 4 i → ⊥)
@@ -50,6 +48,7 @@ pub record Place : Type 0 where
   pub define : Command
   pub here : Extent
   pub there : Extent
+  pub map : List ℕ
   pub store : List ℕ
   pub store′ : List ℕ
 
@@ -62,6 +61,14 @@ pub record SoundPlace (dev : Device) (F : Place) : Type 0 where
   pub sizes : length (F .store) ≡ length (F .store′)
   pub room : HasRoom dev (F .here) (F .store)
   pub room′ : HasRoom dev (F .there) (F .store′)
+  pub few : blockCount dev (F .store) ≤ 131072
+  pub few-alternates : dev .alternates ≤ mapEntries
+
+pub place-spans : (dev : Device) (F : Place) → SoundPlace dev F → Spans (F .here) (F .there)
+place-spans dev F k =
+    let first : F .here .first .0 ≡ F .there .first .0 = ap (λ (d : Displacement). d .0) (k .first) in
+    let last : F .here .last .0 ≡ F .there .last .0 = ap (λ (d : Displacement). d .0) (k .last) in
+    record { first = first; long = omega (arith, first, last) }
 
 pub record States (F : Place) (s t : State) : Type 0 where
   pub unit : s .unit ≡ t .unit
@@ -79,12 +86,17 @@ pub record Mains (F : Place) (m n : List ℕ) : Type 0 where
   pub here : extentIn (fetched (F .define) m extentLength) ≡ F .here
   pub there : extentIn (fetched (F .define) n extentLength) ≡ F .there
 
-pub record Stores (dev : Device) (F : Place) (x y : List ℕ) : Type 0 where
+-- maps m and m′, stores x and x′
+pub record Stores (dev : Device) (F : Place) (m m′ x x′ : List ℕ) : Type 0 where
   pub long : length x ≡ length (F .store)
-  pub long′ : length y ≡ length (F .store′)
-  pub same : SameData dev (F .here) (F .there) x y
-  pub kept : KeptOutside dev (F .here) (F .store) x
-  pub kept′ : KeptOutside dev (F .there) (F .store′) y
+  pub long′ : length x′ ≡ length (F .store′)
+  pub map-long : length m ≡ mapSize
+  pub map-long′ : length m′ ≡ mapSize
+  pub maps : SameMaps (F .here) (F .there) m m′
+  pub alternates : SameAlternates dev x x′
+  pub same : SameData dev (F .here) (F .there) m x m′ x′
+  pub kept : KeptOutside dev (F .here) (F .map) (F .store) m x
+  pub kept′ : KeptOutside dev (F .there) (F .map) (F .store′) m′ x′
 
 pub record Dones (F : Place) (d e : Done) : Type 0 where
   pub cause : d .cause ≡ e .cause
@@ -96,7 +108,7 @@ pub record Dones (F : Place) (d e : Done) : Type 0 where
 pub record Outs (dev : Device) (F : Place) (o p : Out) : Type 0 where
   pub dones : Dones F (o .done) (p .done)
   pub mains : Mains F (o .main) (p .main)
-  pub stores : Stores dev F (o .store) (p .store)
+  pub stores : Stores dev F (o .done .state .map) (p .done .state .map) (o .store) (p .store)
 
 -- the state
 
@@ -154,71 +166,3 @@ mains-scattered F (p ∷ ps) m m′ bytes h off g =
     let long = length-put m (p .address) xs fits in
     mains-scattered F ps _ _ (drop (p .count) bytes) (inside-same ps m _ (sym long) (h .1)) (λ k b. off k b .1)
     (mains-put F m m′ (p .address) xs fits (λ k b a. off k b .0 (omega (arith, a), omega (arith, a, few))) g)
-
--- the store
-
-pub count-same : (dev : Device) (x y : List ℕ) → length x ≡ length y → blockCount dev x ≡ blockCount dev y
-unfolding blockCount
-count-same dev x y e = rw e
-
--- where the blocks of a LOCATE lie in an extent of the device
-record Lies (dev : Device) (e : Extent) (l : Located) (x : List ℕ) (k : ℕ) : Type 0 where
-  pub base : (i : ℕ) → address e (l .displacement) + i ≡ e .offset .0 + (k + i)
-  pub within : k + l .blocks ≤ e .last .0 - e .first .0 + 1
-  pub fits : (address e (l .displacement) + l .blocks) * dev .block ≤ length x
-
-lies : (dev : Device) (e : Extent) (l : Located) (x : List ℕ) (k : ℕ) → k ≡ l .displacement .0 - e .first .0 → InExtent e l → HasRoom dev e x → Lies dev e l x k
-unfolding address
-lies dev e l x k f h r = record {
-  base = λ i. omega (arith, f);
-  within = omega (arith, f, h .from-first, h .to-last);
-  fits = in-store dev x _ (omega (arith, h .from-first, h .to-last, h .some));
-}
-
--- blocks written over an extent's own leave those outside it
-kept-write : (dev : Device) (e : Extent) (l : Located) (store x bytes : List ℕ) (k : ℕ) → Lies dev e l x k → KeptOutside dev e store x → KeptOutside dev e store (blocksInto dev x (address e (l .displacement)) (l .blocks) bytes)
-kept-write dev e l store x bytes k h o n d =
-    let b = h .base 0 in
-    block-kept dev x _ (l .blocks) bytes n (h .fits) (⊎-elim (λ y. inl (omega (arith, b))) (λ y. inr (omega (arith, b, h .within))) d) ∙ o n d
-
-module _ (dev : Device) (F : Place) (k : SoundPlace dev F) (l : Located) (x y : List ℕ) (h : InExtent (F .here) l) (g : Stores dev F x y) where
-  h′ : InExtent (F .there) l
-  h′ = record { some = h .some; from-first = rw (← (k .first)) (h .from-first); to-last = rw (← (k .last)) (h .to-last) }
-
-  from : ℕ
-  from = l .displacement .0 - F .here .first .0
-
-  lies-here : Lies dev (F .here) l x from
-  unfolding from
-  lies-here = lies dev (F .here) l x from refl h (rw (count-same dev x (F .store) (g .long)) (k .room))
-
-  lies-there : Lies dev (F .there) l y from
-  unfolding from
-  lies-there =
-      let room : HasRoom dev (F .there) y = rw (count-same dev y (F .store′) (g .long′)) (k .room′) in
-      lies dev (F .there) l y from (ap (λ (d : Displacement). l .displacement .0 - d .0) (k .first)) h′ room
-
-  pub stores-read : blocksFrom dev x (address (F .here) (l .displacement)) (l .blocks) ≡ blocksFrom dev y (address (F .there) (l .displacement)) (l .blocks)
-  stores-read = blocks-from-same dev x y _ _ (l .blocks) (λ i b. rw (lies-here .base i, lies-there .base i) (g .same (from + i) (omega (arith, lies-here .within))))
-
-  pub stores-write : (bytes : List ℕ) → Stores dev F (blocksInto dev x (address (F .here) (l .displacement)) (l .blocks) bytes) (blocksInto dev y (address (F .there) (l .displacement)) (l .blocks) bytes)
-  stores-write bytes =
-      let a : ℕ = address (F .here) (l .displacement) in
-      let b : ℕ = address (F .there) (l .displacement) in
-      record {
-        long = blocks-into-length dev x a (l .blocks) bytes (lies-here .fits) ∙ g .long;
-        long′ = blocks-into-length dev y b (l .blocks) bytes (lies-there .fits) ∙ g .long′;
-        same = λ i d.
-            let Q : Type 0 = blockAt dev (blocksInto dev x a (l .blocks) bytes) (F .here .offset .0 + i) ≡ blockAt dev (blocksInto dev y b (l .blocks) bytes) (F .there .offset .0 + i) in
-            let a0 = lies-here .base 0 in
-            let b0 = lies-there .base 0 in
-            let other : (i < from) ⊎ (from + l .blocks ≤ i) → Q = λ w.
-            block-kept dev x a (l .blocks) bytes _ (lies-here .fits) (⊎-elim (λ z. inl (omega (arith, a0))) (λ z. inr (omega (arith, a0))) w)
-            ∙ g .same i d
-            ∙ sym (block-kept dev y b (l .blocks) bytes _ (lies-there .fits) (⊎-elim (λ z. inl (omega (arith, b0))) (λ z. inr (omega (arith, b0))) w)) in
-            by-place Q i from (l .blocks) (λ z. other (inl z))
-            (λ j z e. rw (e, ← (lies-here .base j), ← (lies-there .base j)) (block-stored dev x a (l .blocks) bytes j (lies-here .fits) z ∙ sym (block-stored dev y b (l .blocks) bytes j (lies-there .fits) z)))
-            (λ z. other (inr z));
-        kept = kept-write dev (F .here) l (F .store) x bytes from lies-here (g .kept);
-        kept′ = kept-write dev (F .there) l (F .store′) y bytes from lies-there (g .kept′);
-      }

@@ -5,7 +5,7 @@
 --     accepted-alike    any accepted command
 --     step-alike        any command
 -- No contract cites this file.
-use Prim.Native.Nat.{ℕ, _*_, min}
+use Prim.Native.Nat.{ℕ, _+_, _-_, _*_, _<_, min}
 use mathlib.Core.Path.{_≡_, refl, sym, ap, _∙_}
 use mathlib.Core.Bool.{true}
 use mathlib.Core.List.{List, []}
@@ -13,10 +13,14 @@ use lib.ListN.{take}
 use native.Mathlib.Omega.{arith}
 use borrow.Author.Tests.{eqb-true}
 use Rattle.slices.specs.Parts.{zeros}
+use Rattle.model.specs.declared.extent.Displacement.{Displacement}
+use Rattle.model.specs.declared.extent.Extent.{Extent}
+use Rattle.model.specs.declared.extent.Located.{Located}
 use Rattle.model.specs.declared.record.Record.{Record}
 use Rattle.model.specs.declared.device.Device.{Device}
 use Rattle.model.specs.State.{State}
-use Rattle.model.specs.Names.{NO-OPERATION, DEFINE-EXTENT, LOCATE, READ, WRITE}
+use Rattle.model.specs.Names.{NO-OPERATION, DEFINE-EXTENT, LOCATE, READ, WRITE, format}
+use Rattle.model.specs.Alternates.{unusedIn}
 use Rattle.numbers.specs.Choice.{_=?_}
 use Rattle.model.specs.Rules.{Rule, firstOf}
 use Rattle.model.specs.Lent.{blockCount, blocksFrom}
@@ -25,15 +29,16 @@ use Rattle.model.specs.Parameters.{locateLength, locatedIn, address, rea
 use Rattle.model.specs.Causes.{channelCauses, unitCauses, extentCauses, defineExtentCauses, readIplCauses, transferCauses, verdict, a-locate, kindOf}
 use Rattle.model.specs.Sense.{shown}
 use Rattle.model.specs.Log.{withSense, movementCounted, logOf, logReset}
-use Rattle.model.specs.Commands.{Out, senseGiven, after, extentSet, locateSet, noOperation, defineExtent, locate, sent, sense, senseType, readLog, begun, read, write, accepted, refusal, refused, cleared, seen, decided, step, defineDone, locateDone, readDone, writeDone}
+use Rattle.model.specs.Commands.{Out, senseGiven, after, extentSet, locateSet, mapAfter, noOperation, defineExtent, locate, sent, sense, senseType, readLog, begun, read, write, accepted, refusal, refused, cleared, seen, decided, step, defineDone, locateDone, readDone, writeDone}
 use Rattle.model.specs.Safe.{Inside, InExtent, Safe}
 use Rattle.model.specs.Exactly.{absent}
 use Rattle.numbers.proofs.Choice.{pick-both}
 use Rattle.model.proofs.Verdicts.{never-given}
 use Rattle.model.proofs.Leaving.{leaves-both}
 use Rattle.model.proofs.Steps.{Admitted, accepted-cases, past-channel, own-cases, accepted-as}
-use Rattle.model.proofs.Safety.{after-locate, safe-seen}
-use Rattle.model.proofs.Alike.{Place, SoundPlace, States, Mains, Stores, Outs, states-after, mains-scattered, stores-read, stores-write}
+use Rattle.model.proofs.Safety.{after-locate, locate-ok, format-takes, safe-seen}
+use Rattle.model.proofs.Alike.{Place, SoundPlace, States, Mains, Stores, Outs, states-after, mains-scattered}
+use Rattle.model.proofs.AlikeStores.{stores-read, stores-write, stores-formatted}
 use Rattle.model.proofs.AlikeVerdicts.{Fits, fetched-same, extent-here, extent-there, verdict-same}
 
 -- a refused command
@@ -47,7 +52,7 @@ locate-shows dev c s m x e =
     (λ _. elsewhere _ refl) (λ l _. l) (λ _. elsewhere _ refl) (λ _. elsewhere _ refl) (λ _. elsewhere _ refl) (elsewhere [] refl)
     (past-channel dev c s m x 39 refl e .1)
 
-module _ (dev : Device) (F : Place) (c : Command) (f : Fits F c) (s t : State) (r : States F s t) (m m′ : List ℕ) (g : Mains F m m′) (x x′ : List ℕ) (h : Stores dev F x x′) where
+module _ (dev : Device) (F : Place) (c : Command) (f : Fits F c) (s t : State) (r : States F s t) (m m′ : List ℕ) (g : Mains F m m′) (x x′ : List ℕ) (h : Stores dev F (s .map) (t .map) x x′) where
   shown-same : (w : ℕ) → verdict dev c s m x ≡ w → shown w (fetched c m locateLength) ≡ shown w (fetched c m′ locateLength)
   unfolding shown
   shown-same w e =
@@ -56,15 +61,16 @@ module _ (dev : Device) (F : Place) (c : Command) (f : Fits F c) (s t : State) (
       (λ _. refl)
 
   refused-alike : (w : ℕ) → verdict dev c s m x ≡ w → Outs dev F (refused c s m x w) (refused c t m′ x′ w)
-  unfolding refused
+  unfolding refused after
   refused-alike w e =
       let left = leaves-both (States F) (kindOf w) s t (senseGiven w c m) (senseGiven w c m′) r (states-after F s t _ _ _ _ (r .unit) refl r) (states-after F s t _ _ _ _ (rw (r .unit, shown-same w e)) refl r) in
-      record { dones = record { cause = refl; moved = refl; can = refl; blocks = refl; states = left }; mains = g; stores = h }
+      let stores = leaves-both (λ (y z : State). Stores dev F (y .map) (z .map) x x′) (kindOf w) s t (senseGiven w c m) (senseGiven w c m′) h h h in
+      record { dones = record { cause = refl; moved = refl; can = refl; blocks = refl; states = left }; mains = g; stores = stores }
 
   -- commands that move no block
 
   no-operation-alike : Outs dev F (noOperation s m x) (noOperation t m′ x′)
-  unfolding noOperation
+  unfolding noOperation after
   no-operation-alike = record { dones = record { cause = refl; moved = refl; can = refl; blocks = refl; states = states-after F s t _ _ _ _ (r .unit) refl r }; mains = g; stores = h }
 
   define-alike : SoundPlace dev F → c .command ≡ DEFINE-EXTENT → Outs dev F (defineExtent c s m x) (defineExtent c t m′ x′)
@@ -93,9 +99,24 @@ module _ (dev : Device) (F : Place) (c : Command) (f : Fits F c) (s t : State) (
         stores = h;
       }
 
-  locate-alike : c .command ≡ LOCATE → Outs dev F (locate c s m x) (locate c t m′ x′)
+  -- a format takes the same alternate in both; another LOCATE leaves the maps
+  map-alike : SoundPlace dev F → (l : Located) → (s .extent ≡ F .here) × (t .extent ≡ F .there) → InExtent (s .extent) l
+      → (l .operation =? format ≡ true → unusedIn (s .map) (dev .alternates) < dev .alternates) → Stores dev F (mapAfter dev (s .map) (s .extent) l) (mapAfter dev (t .map) (t .extent) l) x x′
+  unfolding mapAfter address
+  map-alike k l at within takes =
+      let i : ℕ = l .displacement .0 - F .here .first .0 in
+      let in-here : InExtent (F .here) l = rw (← (at .0)) within in
+      let p : address (s .extent) (l .displacement) ≡ F .here .offset .0 + i = ap (λ (e : Extent). address e (l .displacement)) (at .0) ∙ omega arith in
+      let first : F .here .first .0 ≡ F .there .first .0 = ap (λ (d : Displacement). d .0) (k .first) in
+      let q : address (t .extent) (l .displacement) ≡ F .there .offset .0 + i = ap (λ (e : Extent). address e (l .displacement)) (at .1) ∙ omega (arith, first) in
+      pick-both (λ (a b : List ℕ). Stores dev F a b x x′) (l .operation =? format) _ _ _ _
+      (λ b. rw (p, q) (stores-formatted dev F k (s .map) (t .map) x x′ h i (omega (arith, in-here .from-first, in-here .to-last, in-here .some)) (takes b)))
+      (λ _. h)
+
+  locate-alike : SoundPlace dev F → s .defined ≡ true → InExtent (s .extent) (locatedIn (fetched c m locateLength))
+      → (locatedIn (fetched c m locateLength) .operation =? format ≡ true → unusedIn (s .map) (dev .alternates) < dev .alternates) → c .command ≡ LOCATE → Outs dev F (locate dev c s m x) (locate dev c t m′ x′)
   unfolding locate locateDone locateSet
-  locate-alike e =
+  locate-alike k defined within takes e =
       let p = fetched-same F c m m′ f g locateLength (λ d. omega arith) in
       record {
         dones = record {
@@ -115,7 +136,7 @@ module _ (dev : Device) (F : Place) (c : Command) (f : Fits F c) (s t : State) (
           };
         };
         mains = g;
-        stores = h;
+        stores = rw (← p) (map-alike k (locatedIn (fetched c m locateLength)) (r .set defined) within takes);
       }
 
   -- bytes delivered to another command's data area
@@ -125,7 +146,7 @@ module _ (dev : Device) (F : Place) (c : Command) (f : Fits F c) (s t : State) (
 
   sent-alike : (can : ℕ) (bytes bytes′ : List ℕ) (u u′ : Record) → bytes ≡ bytes′ → u ≡ u′ → Admitted c m → (c .command ≡ DEFINE-EXTENT → ⊥) → (c .command ≡ NO-OPERATION → ⊥)
       → Outs dev F (sent c s m x can bytes u) (sent c t m′ x′ can bytes′ u′)
-  unfolding sent
+  unfolding sent after
   sent-alike can bytes bytes′ u u′ b e a o n = record {
     dones = record { cause = refl; moved = refl; can = refl; blocks = refl; states = states-after F s t u u′ _ _ e refl r };
     mains = delivered-alike bytes bytes′ (min (total c) can) b o (a .room n);
@@ -146,11 +167,11 @@ module _ (dev : Device) (F : Place) (c : Command) (f : Fits F c) (s t : State) (
     within = rw (← here) (w .located l .1)
 
     read-alike : Admitted c m → c .command ≡ READ → Outs dev F (read dev c s m x) (read dev c t m′ x′)
-    unfolding read readDone
+    unfolding read readDone after
     read-alike a e =
         let can : s .located .blocks * dev .block ≡ t .located .blocks * dev .block = rw (r .located) in
-        let bytes : blocksFrom dev x (address (s .extent) (s .located .displacement)) (s .located .blocks) ≡ blocksFrom dev x′ (address (t .extent) (t .located .displacement)) (t .located .blocks)
-        = rw (here, there, ← (r .located)) (stores-read dev F k (s .located) x x′ within h) in
+        let bytes : blocksFrom dev (s .map) x (address (s .extent) (s .located .displacement)) (s .located .blocks) ≡ blocksFrom dev (t .map) x′ (address (t .extent) (t .located .displacement)) (t .located .blocks)
+        = rw (here, there, ← (r .located)) (stores-read dev F k (s .map) (t .map) x x′ h (s .located) within) in
         record {
           dones = record {
             cause = refl;
@@ -164,7 +185,7 @@ module _ (dev : Device) (F : Place) (c : Command) (f : Fits F c) (s t : State) (
         }
 
     write-alike : Admitted c m → c .command ≡ WRITE → Outs dev F (write dev c s m x) (write dev c t m′ x′)
-    unfolding write writeDone
+    unfolding write writeDone after
     write-alike a e =
         let can : s .located .blocks * dev .block ≡ t .located .blocks * dev .block = rw (r .located) in
         let bytes = fetched-same F c m m′ f g (min (total c) (s .located .blocks * dev .block)) (λ d. omega arith) in
@@ -177,7 +198,7 @@ module _ (dev : Device) (F : Place) (c : Command) (f : Fits F c) (s t : State) (
             states = states-after F s t _ _ _ _ (rw (r .located, r .unit)) refl r;
           };
           mains = g;
-          stores = rw (here, there, ← (r .located), ← bytes) (stores-write dev F k (s .located) x x′ within h _);
+          stores = rw (here, there, ← (r .located), ← bytes) (stores-write dev F k (s .map) (t .map) x x′ h (s .located) within _);
         }
 
 -- any command
@@ -186,7 +207,7 @@ states-seen : (F : Place) (c : Command) (s t : State) → States F s t → State
 unfolding seen cleared after
 states-seen F c s t r = states-after F s t _ _ _ _ (rw (r .unit)) (r .before) r
 
-module _ (dev : Device) (F : Place) (k : SoundPlace dev F) (c : Command) (f : Fits F c) (s t : State) (r : States F s t) (m m′ : List ℕ) (g : Mains F m m′) (x x′ : List ℕ) (h : Stores dev F x x′)
+module _ (dev : Device) (F : Place) (k : SoundPlace dev F) (c : Command) (f : Fits F c) (s t : State) (r : States F s t) (m m′ : List ℕ) (g : Mains F m m′) (x x′ : List ℕ) (h : Stores dev F (s .map) (t .map) x x′)
     (w : Safe s (blockCount dev x)) where
   accepted-alike : verdict dev c s m x ≡ 0 → Outs dev F (accepted dev c (seen c s) m x) (accepted dev c (seen c t) m′ x′)
   unfolding seen after sense senseType readLog
@@ -203,7 +224,7 @@ module _ (dev : Device) (F : Place) (k : SoundPlace dev F) (c : Command) (f : Fi
         refusal = λ n o e. absurd (o (sym e ∙ v));
         no-operation = λ e. rw (accepted-as dev c z m′ x′ .no-operation e) (no-operation-alike dev F c f y z q m m′ g x x′ h);
         define-extent = λ a e _. rw (accepted-as dev c z m′ x′ .define-extent e) (define-alike dev F c f y z q m m′ g x x′ h k e);
-        locate = λ a e l. rw (accepted-as dev c z m′ x′ .locate e) (locate-alike dev F c f y z q m m′ g x x′ h e);
+        locate = λ a e l. rw (accepted-as dev c z m′ x′ .locate e) (locate-alike dev F c f y z q m m′ g x x′ h k (locate-ok dev c s _ l .defined) (locate-ok dev c s _ l .placed) (format-takes dev c s _ l) e);
         read = λ a e l. rw (accepted-as dev c z m′ x′ .read e) (read-alike dev F c f y z q m m′ g x x′ h k safe (after-locate reads s l) a e);
         write = λ a e l. rw (accepted-as dev c z m′ x′ .write e) (write-alike dev F c f y z q m m′ g x x′ h k safe (after-locate writes s l) a e);
         read-ipl = λ a e _. absurd (f .no-ipl e);

@@ -18,6 +18,7 @@ use Rattle.model.specs.State.{State}
 use Rattle.model.specs.Names.{DEFINE-EXTENT, LOCATE, READ-IPL}
 use Rattle.numbers.specs.Choice.{_<?_}
 use Rattle.model.specs.Rules.{Rule, firstOf}
+use Rattle.model.specs.Alternates.{unusedIn}
 use Rattle.model.specs.Lent.{blockCount}
 use Rattle.model.specs.Pieces.{Command, pieces, fetched}
 use Rattle.model.specs.Parameters.{extentLength, extentIn, reservedIn, sizeIn, locateLength, address, outside, reads, writes}
@@ -25,7 +26,9 @@ use Rattle.model.specs.Causes.{channelCauses, unitCauses, extentCauses, 
 use Rattle.model.specs.Moved.{placeOf, Off, ParametersApart}
 use Rattle.numbers.proofs.Choice.{pick-both}
 use Rattle.model.proofs.Verdicts.{first-same}
-use Rattle.model.proofs.Alike.{parameter-same, Place, SoundPlace, States, Mains, Stores, mains-gathered, count-same}
+use Rattle.model.proofs.Blocks.{count-same}
+use Rattle.model.proofs.AlikeMaps.{unused-same}
+use Rattle.model.proofs.Alike.{parameter-same, Place, SoundPlace, place-spans, States, Mains, Stores, mains-gathered}
 
 pub record Fits (F : Place) (c : Command) : Type 0 where
   pub own : c .command ≡ DEFINE-EXTENT → c ≡ F .define
@@ -78,12 +81,13 @@ module _ (dev : Device) (F : Place) (k : SoundPlace dev F) (c : Command) (f : Fi
       (reserved-same F c m m′ f g (k .apart) e) (dev-same F c m m′ f g (k .apart) e) here there in
       rw (r .defined, x)
 
-  locate-states : (p : List ℕ) → locateCauses c s p ≡ locateCauses c t p
+  -- u: the alternate that a format would take is the same
+  locate-states : unusedIn (s .map) (dev .alternates) ≡ unusedIn (t .map) (dev .alternates) → (p : List ℕ) → locateCauses dev c s p ≡ locateCauses dev c t p
   unfolding locateCauses locationCauses permissionCauses outside
-  locate-states p = rw (r .defined, r .mask, r .first, r .last, r .unit)
+  locate-states u p = rw (r .defined, r .mask, r .first, r .last, r .unit, u)
 
-  locate-same : c .command ≡ LOCATE → locateCauses c s (fetched c m locateLength) ≡ locateCauses c t (fetched c m′ locateLength)
-  locate-same e = locate-states (fetched c m locateLength) ∙ ap (locateCauses c t) (fetched-same F c m m′ f g locateLength (λ d. omega arith))
+  locate-same : unusedIn (s .map) (dev .alternates) ≡ unusedIn (t .map) (dev .alternates) → c .command ≡ LOCATE → locateCauses dev c s (fetched c m locateLength) ≡ locateCauses dev c t (fetched c m′ locateLength)
+  locate-same u e = locate-states u (fetched c m locateLength) ∙ ap (locateCauses dev c t) (fetched-same F c m m′ f g locateLength (λ d. omega arith))
 
   transfer-same : (follows : ℕ → Bool) → transferCauses follows s ≡ transferCauses follows t
   unfolding transferCauses
@@ -99,15 +103,16 @@ unit-same : (F : Place) (c : Command) (s t : State) → States F s t → unitCau
 unfolding unitCauses
 unit-same F c s t r = rw (r .unit)
 
-module _ (dev : Device) (F : Place) (k : SoundPlace dev F) (c : Command) (f : Fits F c) (s t : State) (r : States F s t) (m m′ : List ℕ) (g : Mains F m m′) (x x′ : List ℕ) (h : Stores dev F x x′) where
+module _ (dev : Device) (F : Place) (k : SoundPlace dev F) (c : Command) (f : Fits F c) (s t : State) (r : States F s t) (m m′ : List ℕ) (g : Mains F m m′) (x x′ : List ℕ) (h : Stores dev F (s .map) (t .map) x x′) where
   own-same : firstOf (ownCauses dev c s m x) ≡ firstOf (ownCauses dev c t m′ x′)
   unfolding ownCauses
   own-same =
       let Q : List Rule → List Rule → Type 0 = λ a b. firstOf a ≡ firstOf b in
+      let u = unused-same (F .here) (F .there) (place-spans dev F k) (s .map) (t .map) (h .maps) (dev .alternates) in
       let n : blockCount dev x ≡ blockCount dev (F .store) = count-same dev x (F .store) (h .long) in
       let n′ : blockCount dev x′ ≡ blockCount dev (F .store) = count-same dev x′ (F .store) (h .long′ ∙ sym (k .sizes)) in
       pick-both Q _ _ _ _ _ (λ b. rw (n, n′) (ap firstOf (define-same dev F k c f s t r m m′ g _ (eqb-true _ _ b) refl))) (λ _.
-      pick-both Q _ _ _ _ _ (λ b. ap firstOf (locate-same dev F k c f s t r m m′ g (eqb-true _ _ b))) (λ _.
+      pick-both Q _ _ _ _ _ (λ b. ap firstOf (locate-same dev F k c f s t r m m′ g u (eqb-true _ _ b))) (λ _.
       pick-both Q _ _ _ _ _ (λ b. absurd (f .no-ipl (eqb-true _ _ b))) (λ _.
       pick-both Q _ _ _ _ _ (λ _. ap firstOf (transfer-same dev F k c f s t r m m′ g reads)) (λ _.
       pick-both Q _ _ _ _ _ (λ _. ap firstOf (transfer-same dev F k c f s t r m m′ g writes)) (λ _. refl)))))

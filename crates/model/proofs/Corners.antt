@@ -2,7 +2,7 @@
 -- them, and the call gives the first. A line mends what the line before it was refused for, so of any two neighbours of a table
 -- there is a line where both rules hold.
 --     corners         commands: 13, 10, 11, 12, 44, 43; 20 to 26; 30 to 39; 41, 42
---     call-corners    the call from C: 1 to 6
+--     call-corners    the call from C: 1 to 6 and 8
 --     storage-limit, store-limit
 --                     both sides of the two limits that no example can hold
 -- Assumes nothing.
@@ -10,17 +10,18 @@ use Prim.Native.Nat.{ℕ, _*_}
 use mathlib.Core.Path.{_≡_, refl}
 use mathlib.Core.List.{List, [], _∷_, _++_, map}
 use lib.ListN.{length, getD, drop, replicate}
-use Rattle.model.specs.Names.{NO-OPERATION, DEFINE-EXTENT, LOCATE, READ, WRITE, READ-IPL, SENSE, SENSE-TYPE, format, write-data, read-data, read-replicated}
+use Rattle.model.specs.Names.{DEFECTIVE, NO-OPERATION, DEFINE-EXTENT, LOCATE, READ, WRITE, READ-IPL, SENSE, SENSE-TYPE, format, write-data, read-data, read-replicated}
 use Rattle.numbers.specs.Choice.{pick}
 use Rattle.model.specs.Rules.{Rule, firstOf}
-use Rattle.model.specs.Lent.{newRecord}
+use Rattle.numbers.specs.Big.{bytes4}
+use Rattle.model.specs.Lent.{newRecord, newMap, recordBytes}
 use Rattle.model.specs.Pieces.{commandAt}
 use Rattle.model.specs.Causes.{callCauses, hostCauses, causesOf}
 use Rattle.model.specs.Chain.{System, system, start, classA}
 use Rattle.model.specs.Host.{hostCall}
 use Rattle.model.specs.Reached.{found}
 use Rattle.model.proofs.Opened.{opened}
-use Rattle.model.proofs.Inputs.{Lent, theUnit, device, ccw, extent, location, causeOf}
+use Rattle.model.proofs.Inputs.{Lent, theUnit, device, entries, ccw, extent, location, causeOf}
 
 -- the causes whose rules hold, in the table's order
 abbrev held : List Rule → List ℕ
@@ -40,8 +41,8 @@ pub record Corner : Type 0 where
 -- the whole table of command i, on what it finds
 abbrev tableAt : ℕ → Lent → List Rule
 tableAt i l =
-    let f : System = found classA (l .chain) i (system (start (l .unit)) (l .main) (l .store) (l .answers) 0) in
-    causesOf classA (commandAt (l .chain) i) (f .state) (f .main) (f .store)
+    let f : System = found (classA (l .alternates)) (l .chain) i (system (start (l .unit) (l .map)) (l .main) (l .store) (l .answers) 0) in
+    causesOf (classA (l .alternates)) (commandAt (l .chain) i) (f .state) (f .main) (f .store)
 
 abbrev got : Corner → List ℕ
 got c = causeOf (c .at) (theUnit (c .input)) ∷ held (tableAt (c .at) (c .input))
@@ -52,7 +53,7 @@ wanted c = first (c .hold) ∷ c .hold
 -- one command on 24 bytes of main storage, to a unit that is ready (1) or not (0)
 abbrev alone : ℕ → List ℕ → List ℕ → Corner
 alone ready c hold = record {
-  input = record { chain = c; main = replicate 24 0; store = device 1; unit = newRecord ready 0; answers = replicate 16 0 };
+  input = record { chain = c; main = replicate 24 0; store = device 1; unit = newRecord ready 0; alternates = 0; map = newMap; answers = replicate 16 0 };
   at = 0;
   hold = hold;
 }
@@ -60,7 +61,7 @@ alone ready c hold = record {
 -- command i of a chain on four blocks, of a unit that is read-only (1) or not (0), with DEFINE EXTENT's sixteen bytes at 0 and LOCATE's eight at 16
 abbrev at : ℕ → List ℕ → ℕ → List ℕ → List ℕ → List ℕ → Corner
 at i chain readOnly e l hold = record {
-  input = record { chain = chain; main = e ++ l; store = device 4; unit = newRecord 1 readOnly; answers = replicate 40 0 };
+  input = record { chain = chain; main = e ++ l; store = device 4; unit = newRecord 1 readOnly; alternates = 0; map = newMap; answers = replicate 40 0 };
   at = i;
   hold = hold;
 }
@@ -148,9 +149,10 @@ pub corners : map got lines ≡ map wanted lines
 unfolding opened
 corners = refl
 
--- the call from C: a chain, a store, a record's bytes and answers, on a main storage that is one byte too long or empty
+-- the call from C: a device's alternates, a chain, a store, a record's bytes and answers, on a main storage that is one byte too long or empty
 
 pub record CallCorner : Type 0 where
+  pub alternates : ℕ
   pub chain : List ℕ
   pub main : List ℕ
   pub store : List ℕ
@@ -158,20 +160,36 @@ pub record CallCorner : Type 0 where
   pub answers : List ℕ
   pub hold : List ℕ
 
+abbrev callOn : ℕ → List ℕ → List ℕ → List ℕ → List ℕ → List ℕ → List ℕ → CallCorner
+callOn alternates chain main store unit answers hold = record { alternates = alternates; chain = chain; main = main; store = store; unit = unit; answers = answers; hold = hold }
+
 abbrev call : List ℕ → List ℕ → List ℕ → List ℕ → List ℕ → List ℕ → CallCorner
-call chain main store unit answers hold = record { chain = chain; main = main; store = store; unit = unit; answers = answers; hold = hold }
+call = callOn 0
 
 abbrev got-call : CallCorner → List ℕ
-got-call c = hostCall (c .chain) (c .main) (c .store) (c .unit) (c .answers) .result ∷ held (hostCauses classA (c .chain) (c .main) (c .store) (c .unit) (c .answers))
+got-call c = hostCall (c .alternates) (c .chain) (c .main) (c .store) (c .unit) (c .answers) .result ∷ held (hostCauses (classA (c .alternates)) (c .chain) (c .main) (c .store) (c .unit) (c .answers))
+
+-- a call that no cause refuses has one command, and reaches it
+abbrev resultBy : List ℕ → ℕ
+resultBy [] = 1
+resultBy (w ∷ ws) = 256 * w
 
 abbrev wanted-call : CallCorner → List ℕ
-wanted-call c = 256 * first (c .hold) ∷ c .hold
+wanted-call c = resultBy (c .hold) ∷ c .hold
 
 abbrev one-command : List ℕ
 one-command = ccw NO-OPERATION 0 0x00 1
 
 abbrev chained : List ℕ
 chained = ccw NO-OPERATION 0 0x40 1
+
+-- a store of n blocks
+abbrev blocks : ℕ → List ℕ
+blocks n = replicate (n * 512) 0
+
+-- a device of two blocks and two alternates, with this map
+abbrev mapped : List ℕ → List ℕ → CallCorner
+mapped map hold = callOn 2 one-command [] (blocks 4) (recordBytes (newRecord 1 0) map) (replicate 8 0) hold
 
 abbrev pub calls : List ℕ → List CallCorner
 calls large =
@@ -183,6 +201,21 @@ calls large =
     ∷ call (ccw NO-OPERATION 0 0x80 1) [] (device 1) [] (replicate 8 0) (5 ∷ 6 ∷ [])
     ∷ call (ccw NO-OPERATION 0 0x40 1 ++ ccw NO-OPERATION 0 0xA0 1) [] (device 1) [] (replicate 16 0) (5 ∷ 6 ∷ [])
     ∷ call one-command [] (device 1) [] (replicate 8 0) (6 ∷ [])
+    -- the alternates: 64 of them, one more, and a primary before them or none
+    ∷ callOn 64 one-command [] (blocks 65) [] (replicate 8 0) (6 ∷ [])
+    ∷ callOn 65 one-command [] (blocks 66) [] (replicate 8 0) (2 ∷ 6 ∷ [])
+    ∷ callOn 64 one-command [] (blocks 64) [] (replicate 8 0) (2 ∷ 6 ∷ [])
+    -- the map of a device of two blocks and two alternates: a byte too many; an entry that names the second block, the third, of which there is
+    -- none, both the second; two that are defective; an entry beyond the alternates that is, and one that names a block
+    ∷ mapped (entries (3 ∷ 0 ∷ []) ++ (0 ∷ [])) (6 ∷ 8 ∷ [])
+    ∷ mapped (entries (2 ∷ 0 ∷ [])) []
+    ∷ mapped (entries (0 ∷ 3 ∷ [])) (8 ∷ [])
+    ∷ mapped (entries (2 ∷ 2 ∷ [])) (8 ∷ [])
+    ∷ mapped (entries (2 ∷ 1 ∷ [])) []
+    ∷ mapped (entries (DEFECTIVE ∷ DEFECTIVE ∷ [])) []
+    ∷ mapped (entries (0 ∷ 0 ∷ DEFECTIVE ∷ [])) (8 ∷ [])
+    ∷ mapped (entries (0 ∷ 0 ∷ 1 ∷ [])) (8 ∷ [])
+    ∷ mapped (replicate 252 0 ++ bytes4 1) (8 ∷ [])
     ∷ []
 
 pub call-corners : (large : List ℕ) → length large ≡ 16777217 → map got-call (calls large) ≡ map wanted-call (calls large)
@@ -192,13 +225,13 @@ call-corners large e = rw e refl
 -- The two limits that no example can hold: 16,777,216 bytes of main storage, and 131,072 blocks. Any list of that length, and of one more.
 
 pub storage-limit : (main : List ℕ)
-    → (length main ≡ 16777216 → firstOf (callCauses classA one-command main (device 1) (replicate 8 0)) ≡ 0)
-    × (length main ≡ 16777217 → firstOf (callCauses classA one-command main (device 1) (replicate 8 0)) ≡ 3)
+    → (length main ≡ 16777216 → firstOf (callCauses (classA 0) one-command main (device 1) newMap (replicate 8 0)) ≡ 0)
+    × (length main ≡ 16777217 → firstOf (callCauses (classA 0) one-command main (device 1) newMap (replicate 8 0)) ≡ 3)
 unfolding opened
 storage-limit main = (λ e. rw e refl, λ e. rw e refl)
 
 pub store-limit : (store : List ℕ)
-    → (length store ≡ 131072 * 512 → firstOf (callCauses classA one-command [] store (replicate 8 0)) ≡ 0)
-    × (length store ≡ 131073 * 512 → firstOf (callCauses classA one-command [] store (replicate 8 0)) ≡ 2)
+    → (length store ≡ 131072 * 512 → firstOf (callCauses (classA 0) one-command [] store newMap (replicate 8 0)) ≡ 0)
+    × (length store ≡ 131073 * 512 → firstOf (callCauses (classA 0) one-command [] store newMap (replicate 8 0)) ≡ 2)
 unfolding opened
 store-limit store = (λ e. rw e refl, λ e. rw e refl)

@@ -21,6 +21,7 @@ use Rattle.model.specs.declared.record.Record.{Record}
 use Rattle.model.specs.declared.device.Device.{Device}
 use Rattle.model.specs.State.{State}
 use Rattle.numbers.specs.Choice.{_<?_}
+use Rattle.model.specs.Alternates.{mapEntries, mapSize}
 use Rattle.model.specs.Rules.{Rule, firstOf}
 use Rattle.model.specs.Lent.{blockAt, blocksFrom, blocksInto}
 use Rattle.model.specs.Pieces.{Command, pieces, total, fetched, delivered}
@@ -28,13 +29,14 @@ use Rattle.model.specs.Parameters.{locateLength, locatedIn}
 use Rattle.model.specs.Causes.{channelCauses, unitCauses, extentCauses, defineExtentCauses, permissionCauses, locationCauses, locateCauses, readIplCauses, transferCauses, ownCauses, causesOf, verdict, kindOf}
 use Rattle.model.specs.Sense.{CauseRow, senseTable, rowIn, shown, senseOf}
 use Rattle.model.specs.Log.{withSense, withCounts, added3, added2, readCounted, writtenCounted, movementCounted, logOf, logReset}
-use Rattle.model.specs.Commands.{Out, senseGiven, noOperation, defineExtent, locate, sent, sense, senseType, readLog, begun, read, write, readIpl, refused, refusal, cleared, seen, after, extentSet, locateSet, step, defineDone, iplDone, locateDone, readDone, writeDone}
-use Rattle.model.specs.Exactly.{absent}
+use Rattle.model.specs.Commands.{Out, senseGiven, noOperation, defineExtent, locate, sent, sense, senseType, readLog, begun, read, write, readIpl, refused, refusal, cleared, seen, after, extentSet, locateSet, mapAfter, step, defineDone, iplDone, locateDone, readDone, writeDone}
+use Rattle.model.specs.Exactly.{Failed, absent}
 use Rattle.numbers.proofs.Choice.{pick-ind}
 use Rattle.numbers.proofs.Joined.{both-true}
 use Rattle.model.proofs.Pieces.{length-fetched, bytes-gathered, bytes-scattered}
 use Rattle.model.proofs.Verdicts.{peel, never-given, every, every-first, every-all}
-use Rattle.model.proofs.Safety.{define-ok, locate-ok}
+use Rattle.model.proofs.Safety.{define-ok, locate-ok, format-takes}
+use Rattle.model.proofs.Alternates.{length-formatted, bytes-formatted}
 use Rattle.model.proofs.Read.{verdict-read}
 use Rattle.model.proofs.Leaving.{leaves-ind}
 use Rattle.model.proofs.Steps.{past-channel, own-cases, Cases, step-cases}
@@ -123,9 +125,9 @@ shown-sized : (w : ℕ) (p : List ℕ) → (w ≡ 39 → length p ≡ locateLeng
 unfolding shown
 shown-sized w p h b = pick-ind (Sized locateLength) _ _ _ (λ t. record { long = h (eqb-true _ _ t); bytes = b }) (λ _. sized-zeros locateLength)
 
-located-long : (c : Command) (s : State) (p : List ℕ) → firstOf (locateCauses c s p) ≡ 39 → locateLength ≤ total c
+located-long : (dev : Device) (c : Command) (s : State) (p : List ℕ) → firstOf (locateCauses dev c s p) ≡ 39 → locateLength ≤ total c
 unfolding locateCauses locationCauses permissionCauses firstOf
-located-long c s p e = ltb-false _ _ (peel _ _ _ 39 (λ z. omega arith) (peel _ _ _ 39 (λ z. omega arith) e .1) .0)
+located-long dev c s p e = ltb-false _ _ (peel _ _ _ 39 (λ z. omega arith) (peel _ _ _ 39 (λ z. omega arith) e .1) .0)
 
 -- where the verdict is 39 the command is a LOCATE whose eight bytes were there
 located-bytes : (dev : Device) (c : Command) (s : State) (main store : List ℕ) → verdict dev c s main store ≡ 39 → length (fetched c main locateLength) ≡ 8
@@ -135,7 +137,7 @@ located-bytes dev c s main store e =
     let P : List Rule → Type 0 = λ rs. firstOf rs ≡ 39 → length (fetched c main locateLength) ≡ 8 in
     let other : (rs : List Rule) → absent 39 rs ≡ true → P rs = λ rs a g. absurd (never-given 39 rs a (λ z. omega arith) g) in
     own-cases dev c s main store P (λ _. other _ refl)
-    (λ x g. length-fetched c main 8 (p .0 .room (λ z. omega arith)) (located-long c s _ g))
+    (λ x g. length-fetched c main 8 (p .0 .room (λ z. omega arith)) (located-long dev c s _ g))
     (λ _. other _ refl) (λ _. other _ refl) (λ _. other _ refl) (other [] refl) (p .1)
 
 -- the causes are bytes too
@@ -152,16 +154,16 @@ verdict-small dev c s main store =
 
 -- blocks
 
-blocks-from-bytes : (dev : Device) (store : List ℕ) (block n : ℕ) → AreBytes store → AreBytes (blocksFrom dev store block n)
+blocks-from-bytes : (dev : Device) (map store : List ℕ) (block n : ℕ) → AreBytes store → AreBytes (blocksFrom dev map store block n)
 unfolding blocksFrom blockAt
-blocks-from-bytes dev store block zero b = bytes-nil
-blocks-from-bytes dev store block (suc n) b = bytes-append _ _ (bytes-part store _ (dev .block) b) (blocks-from-bytes dev store (block + 1) n b)
+blocks-from-bytes dev map store block zero b = bytes-nil
+blocks-from-bytes dev map store block (suc n) b = bytes-append _ _ (bytes-part store _ (dev .block) b) (blocks-from-bytes dev map store (block + 1) n b)
 
-blocks-into-bytes : (dev : Device) (store : List ℕ) (block n : ℕ) (bytes : List ℕ) → AreBytes store → AreBytes bytes → AreBytes (blocksInto dev store block n bytes)
+blocks-into-bytes : (dev : Device) (map store : List ℕ) (block n : ℕ) (bytes : List ℕ) → AreBytes store → AreBytes bytes → AreBytes (blocksInto dev map store block n bytes)
 unfolding blocksInto
-blocks-into-bytes dev store block zero bytes b d = b
-blocks-into-bytes dev store block (suc n) bytes b d =
-    blocks-into-bytes dev _ (block + 1) n _ (bytes-put store _ _ b (bytes-pad (dev .block) bytes d)) (bytes-drop (dev .block) bytes d)
+blocks-into-bytes dev map store block zero bytes b d = b
+blocks-into-bytes dev map store block (suc n) bytes b d =
+    blocks-into-bytes dev map _ (block + 1) n _ (bytes-put store _ _ b (bytes-pad (dev .block) bytes d)) (bytes-drop (dev .block) bytes d)
 
 -- bytes that k blocks hold begin no more than k
 pub begun-within : (dev : Device) (n k : ℕ) → 1 ≤ dev .block → n ≤ k * dev .block → begun dev n ≤ k
@@ -180,13 +182,14 @@ log-bytes u r =
 
 pub record Fields (c : Command) (o : Out) : Type 0 where
   pub unit-fields : IsRecord (o .done .state .unit)
+  pub map-fields : Sized mapSize (o .done .state .map)
   pub main-bytes : AreBytes (o .main)
   pub store-bytes : AreBytes (o .store)
   pub cause-byte : o .done .cause < 256
   pub blocks-fit : o .done .blocks < 65536
   pub located-fits : o .done .state .located .blocks < 65536
 
-module _ (dev : Device) (c : Command) (s : State) (main store : List ℕ) (h : 1 ≤ dev .block) (r : IsRecord (s .unit)) (m : AreBytes main) (d : AreBytes store) (l : s .located .blocks < 65536) where
+module _ (dev : Device) (c : Command) (s : State) (main store : List ℕ) (h : 1 ≤ dev .block) (few : dev .alternates ≤ mapEntries) (r : IsRecord (s .unit)) (p : Sized mapSize (s .map)) (m : AreBytes main) (d : AreBytes store) (l : s .located .blocks < 65536) where
   seen-record : IsRecord (seen c s .unit)
   unfolding seen cleared after
   seen-record = pick-ind IsRecord _ _ _ (λ _. r) (λ _. sense-record (s .unit) (zeros 24) (sized-zeros 24) r)
@@ -198,6 +201,7 @@ module _ (dev : Device) (c : Command) (s : State) (main store : List ℕ) (h : 1
         let p = shown-sized w (fetched c main locateLength) (λ z. located-bytes dev c s main store (e ∙ z)) (bytes-take locateLength _ (bytes-gathered (pieces c) main m)) in
         leaves-ind (λ (t : State). IsRecord (t .unit)) (kindOf w) s (senseGiven w c main) r r
         (sense-record (s .unit) _ (record { long = sense-length w _ (p .long); bytes = sense-bytes w _ (p .bytes) }) r);
+    map-fields = leaves-ind (λ (t : State). Sized mapSize (t .map)) (kindOf w) s (senseGiven w c main) p p p;
     located-fits = leaves-ind (λ (t : State). t .located .blocks < 65536) (kindOf w) s (senseGiven w c main) l l l;
     main-bytes = m;
     store-bytes = d;
@@ -210,6 +214,7 @@ module _ (dev : Device) (c : Command) (s : State) (main store : List ℕ) (h : 1
   unfolding sent seen after delivered
   sent-fields n bytes u b k = record {
     unit-fields = k;
+    map-fields = p;
     main-bytes = bytes-scattered (pieces c) main _ m (bytes-take (min (total c) n) bytes b);
     store-bytes = d;
     cause-byte = omega arith;
@@ -217,18 +222,29 @@ module _ (dev : Device) (c : Command) (s : State) (main store : List ℕ) (h : 1
     located-fits = l;
   }
 
+  -- a LOCATE that no cause refuses leaves the map, or that of a format which had an alternate to take
+  located-map : Failed (locateCauses dev c s (fetched c main locateLength)) → Sized mapSize (mapAfter dev (s .map) (s .extent) (locatedIn (fetched c main locateLength)))
+  unfolding mapAfter
+  located-map f = pick-ind (Sized mapSize) _ _ _
+      (λ b. record {
+        long = length-formatted (s .map) (dev .alternates) _ few (p .long) (format-takes dev c s (fetched c main locateLength) f b);
+        bytes = bytes-formatted (s .map) (dev .alternates) _ (p .bytes);
+      })
+      (λ _. p)
+
   fields-cases : Cases dev c s main store (Fields c)
   unfolding noOperation defineExtent defineDone locate locateDone sense senseType readLog read readDone write writeDone readIpl iplDone seen after extentSet locateSet fetched delivered locatedIn
   fields-cases =
       let k = seen-record in
       record {
         refusal = λ w _ e. refused-fields w e;
-        no-operation = λ _. record { unit-fields = k; main-bytes = m; store-bytes = d; cause-byte = omega arith; blocks-fit = omega arith; located-fits = l };
-        define-extent = λ _ _ f. record { unit-fields = k; main-bytes = m; store-bytes = d; cause-byte = omega arith; blocks-fit = omega arith; located-fits = l };
-        locate = λ _ _ f. record { unit-fields = movement-counted-record _ k; main-bytes = m; store-bytes = d; cause-byte = omega arith; blocks-fit = omega arith; located-fits = be2-fits _ 2 (bytes-take locateLength _ (bytes-gathered (pieces c) main m)) };
+        no-operation = λ _. record { unit-fields = k; map-fields = p; main-bytes = m; store-bytes = d; cause-byte = omega arith; blocks-fit = omega arith; located-fits = l };
+        define-extent = λ _ _ f. record { unit-fields = k; map-fields = p; main-bytes = m; store-bytes = d; cause-byte = omega arith; blocks-fit = omega arith; located-fits = l };
+        locate = λ _ _ f. record { unit-fields = movement-counted-record _ k; map-fields = located-map f; main-bytes = m; store-bytes = d; cause-byte = omega arith; blocks-fit = omega arith; located-fits = be2-fits _ 2 (bytes-take locateLength _ (bytes-gathered (pieces c) main m)) };
         read = λ _ _ _. record {
           unit-fields = read-counted-record _ _ k;
-          main-bytes = bytes-scattered (pieces c) main _ m (bytes-take (min (total c) (s .located .blocks * dev .block)) _ (blocks-from-bytes dev store _ _ d));
+          map-fields = p;
+          main-bytes = bytes-scattered (pieces c) main _ m (bytes-take (min (total c) (s .located .blocks * dev .block)) _ (blocks-from-bytes dev (s .map) store _ _ d));
           store-bytes = d;
           cause-byte = omega arith;
           blocks-fit = omega (arith, l, begun-within dev (min (total c) (s .located .blocks * dev .block)) (s .located .blocks) h (omega arith));
@@ -236,15 +252,17 @@ module _ (dev : Device) (c : Command) (s : State) (main store : List ℕ) (h : 1
         };
         write = λ _ _ _. record {
           unit-fields = pick-ind IsRecord _ _ _ (λ _. written-counted-record _ _ k) (λ _. k);
+          map-fields = p;
           main-bytes = m;
-          store-bytes = blocks-into-bytes dev store _ _ _ d (bytes-take (min (total c) (s .located .blocks * dev .block)) _ (bytes-gathered (pieces c) main m));
+          store-bytes = blocks-into-bytes dev (s .map) store _ _ _ d (bytes-take (min (total c) (s .located .blocks * dev .block)) _ (bytes-gathered (pieces c) main m));
           cause-byte = omega arith;
           blocks-fit = omega (arith, l, begun-within dev (min (total c) (s .located .blocks * dev .block)) (s .located .blocks) h (omega arith));
           located-fits = l;
         };
         read-ipl = λ a _ _. record {
           unit-fields = movement-counted-record _ (read-counted-record 1 _ k);
-          main-bytes = bytes-scattered (pieces c) main _ m (bytes-take (min (total c) (dev .block)) _ (blocks-from-bytes dev store 0 1 d));
+          map-fields = p;
+          main-bytes = bytes-scattered (pieces c) main _ m (bytes-take (min (total c) (dev .block)) _ (blocks-from-bytes dev (s .map) store 0 1 d));
           store-bytes = d;
           cause-byte = omega arith;
           blocks-fit = omega arith;
@@ -284,7 +302,7 @@ step-moved dev c s main store =
       refusal = λ _ _ e. rw (← e) (verdict-read dev c s main store);
       no-operation = λ _. omega arith;
       define-extent = λ _ _ f. define-ok dev _ c s _ f .long;
-      locate = λ _ _ f. locate-ok c s _ f .long;
+      locate = λ _ _ f. locate-ok dev c s _ f .long;
       read = λ _ _ _. omega arith;
       write = λ _ _ _. omega arith;
       read-ipl = λ _ _ _. omega arith;

@@ -3,9 +3,11 @@
 use Prim.Native.Nat.{ℕ, zero, suc, _+_, _*_, _/_, _%_}
 use mathlib.Core.List.{List, [], _∷_, _++_}
 use lib.ListN.{length, getD, replicate}
-use Rattle.numbers.specs.Big.{bytes2, bytes3}
+use Rattle.numbers.specs.Big.{bytes2, bytes3, bytes4}
+use Rattle.slices.specs.Parts.{pad}
+use Rattle.model.specs.Alternates.{mapSize}
 use Rattle.model.specs.declared.record.Record.{Record}
-use Rattle.model.specs.Lent.{newRecord}
+use Rattle.model.specs.Lent.{newRecord, newMap}
 use Rattle.model.specs.Chain.{Called, call, classA}
 
 -- all that a call is lent
@@ -14,19 +16,29 @@ pub record Lent : Type 0 where
   pub main : List ℕ
   pub store : List ℕ
   pub unit : Record
+  pub alternates : ℕ
+  pub map : List ℕ
   pub answers : List ℕ
 
 abbrev pub theUnit : Lent → Called
-theUnit l = call (l .chain) (l .main) (l .store) (l .unit) (l .answers)
+theUnit l = call (l .alternates) (l .chain) (l .main) (l .store) (l .unit) (l .map) (l .answers)
 
 -- block i is filled with byte i
 abbrev pub device : ℕ → List ℕ
 device zero = []
-device (suc n) = device n ++ replicate (classA .block) n
+device (suc n) = device n ++ replicate (classA 0 .block) n
 
--- a ready unit that may be written, and answers that are full of FF
+-- a map with these entries, and all others zero
+abbrev entryBytes : List ℕ → List ℕ
+entryBytes [] = []
+entryBytes (e ∷ es) = bytes4 e ++ entryBytes es
+
+abbrev pub entries : List ℕ → List ℕ
+entries es = pad mapSize (entryBytes es)
+
+-- a ready unit that may be written, with no alternate, and answers that are full of FF
 abbrev pub lent : ℕ → List ℕ → List ℕ → Lent
-lent blocks chain main = record { chain = chain; main = main; store = device blocks; unit = newRecord 1 0; answers = replicate (length chain) 0xFF }
+lent blocks chain main = record { chain = chain; main = main; store = device blocks; unit = newRecord 1 0; alternates = 0; map = newMap; answers = replicate (length chain) 0xFF }
 
 abbrev pub ccw : ℕ → ℕ → ℕ → ℕ → List ℕ
 ccw command address flags count = command ∷ bytes3 address ++ (flags ∷ 0 ∷ []) ++ bytes2 count

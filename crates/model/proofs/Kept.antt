@@ -19,7 +19,8 @@ use Rattle.model.specs.declared.record.Record.{Record}
 use Rattle.model.specs.declared.device.Device.{Device}
 use Rattle.model.specs.State.{Done}
 use Rattle.model.specs.Rules.{firstOf}
-use Rattle.model.specs.Lent.{blockCount}
+use Rattle.model.specs.Alternates.{mapEntries, mapSize}
+use Rattle.model.specs.Lent.{storeBlocks, blockCount}
 use Rattle.model.specs.Pieces.{Command, pieces, commandsIn, commandAt}
 use Rattle.model.specs.Causes.{callCauses, kindOf}
 use Rattle.model.specs.Names.{residual-at, cause-at, blocks-at}
@@ -29,8 +30,7 @@ use Rattle.numbers.proofs.Choice.{pick-ind}
 use Rattle.model.proofs.Pieces.{SmallCounts, spread-small, command-small}
 use Rattle.model.proofs.Leaving.{status-byte, channel-byte}
 use Rattle.model.proofs.Endings.{callable}
-use Rattle.model.proofs.Lengths.{some-block}
-use Rattle.model.proofs.Fields.{IsRecord, step-fields}
+use Rattle.model.proofs.Fields.{Sized, IsRecord, step-fields}
 
 -- an answer
 
@@ -62,20 +62,22 @@ answers-bytes c d b = bytes-append _ _ (bytes-zeros _) b
 
 pub record IsLent (y : System) : Type 0 where
   pub unit-fields : IsRecord (y .state .unit)
+  pub map-fields : Sized mapSize (y .state .map)
   pub main-bytes : AreBytes (y .main)
   pub store-bytes : AreBytes (y .store)
   pub answers-bytes : AreBytes (y .answers)
   pub located-fits : y .state .located .blocks < 65536
 
-module _ (dev : Device) (chain : List ℕ) (h : 1 ≤ dev .block) (b : AreBytes chain) where
+module _ (dev : Device) (chain : List ℕ) (h : 1 ≤ dev .block) (few : dev .alternates ≤ mapEntries) (b : AreBytes chain) where
   pub next-bytes : (i : ℕ) (y : System) → IsLent y → IsLent (next dev chain i y)
   unfolding next stepAt
   next-bytes i y l =
       let c : Command = commandAt chain i in
-      let f = step-fields dev c (y .state) (y .main) (y .store) h (l .unit-fields) (l .main-bytes) (l .store-bytes) (l .located-fits) in
+      let f = step-fields dev c (y .state) (y .main) (y .store) h few (l .unit-fields) (l .map-fields) (l .main-bytes) (l .store-bytes) (l .located-fits) in
       let n = command-small chain i b in
       record {
         unit-fields = f .unit-fields;
+        map-fields = f .map-fields;
         main-bytes = f .main-bytes;
         store-bytes = f .store-bytes;
         answers-bytes = bytes-put (y .answers) _ _ (l .answers-bytes) (answers-bytes c _ (answer-holds c _ n (f .cause-byte) (f .blocks-fit) .are-bytes));
@@ -91,9 +93,9 @@ module _ (dev : Device) (chain : List ℕ) (h : 1 ≤ dev .block) (b : AreBytes 
 
 -- the call
 
-pub some-size : (dev : Device) (store : List ℕ) → 0 < blockCount dev store → 1 ≤ dev .block
-unfolding blockCount
-some-size dev store h = go (dev .block) h
+pub some-size : (dev : Device) (store : List ℕ) → 1 ≤ blockCount dev store → 1 ≤ dev .block
+unfolding blockCount storeBlocks
+some-size dev store h = go (dev .block) (omega (arith, h))
   where
     go : (n : ℕ) → 0 < length store / n → 1 ≤ n
     go zero h = absurd (not-suc-le-zero (rw div-zero at h))
@@ -101,21 +103,22 @@ some-size dev store h = go (dev .block) h
 
 pub record GivesBytes (r : Called) : Type 0 where
   pub unit-fields : IsRecord (r .unit)
+  pub map-fields : Sized mapSize (r .map)
   pub main-bytes : AreBytes (r .main)
   pub store-bytes : AreBytes (r .store)
   pub answers-bytes : AreBytes (r .answers)
 
-pub call-bytes : (dev : Device) (chain main store : List ℕ) (u : Record) (answers : List ℕ)
-    → AreBytes chain → AreBytes main → AreBytes store → IsRecord u → AreBytes answers
-    → GivesBytes (callOf dev chain main store u answers)
+pub call-bytes : (dev : Device) (chain main store : List ℕ) (u : Record) (map answers : List ℕ)
+    → AreBytes chain → AreBytes main → AreBytes store → IsRecord u → Sized mapSize map → AreBytes answers
+    → GivesBytes (callOf dev chain main store u map answers)
 unfolding callOf start
-call-bytes dev chain main store u answers b m d r a =
-    let y : System = system (start u) main store answers 0 in
-    let l : IsLent y = record { unit-fields = r; main-bytes = m; store-bytes = d; answers-bytes = a; located-fits = omega arith } in
-    let gives : (z : System) → IsLent z → GivesBytes (called (firstOf (callCauses dev chain main store answers)) z)
-    = λ z k. record { unit-fields = k .unit-fields; main-bytes = k .main-bytes; store-bytes = k .store-bytes; answers-bytes = k .answers-bytes } in
+call-bytes dev chain main store u map answers b m d r p a =
+    let y : System = system (start u map) main store answers 0 in
+    let l : IsLent y = record { unit-fields = r; map-fields = p; main-bytes = m; store-bytes = d; answers-bytes = a; located-fits = omega arith } in
+    let gives : (z : System) → IsLent z → GivesBytes (called (firstOf (callCauses dev chain main store map answers)) z)
+    = λ z k. record { unit-fields = k .unit-fields; map-fields = k .map-fields; main-bytes = k .main-bytes; store-bytes = k .store-bytes; answers-bytes = k .answers-bytes } in
     gives _ (pick-ind IsLent _ _ _
     (λ e.
-    let k = callable dev chain main store answers (eqb-true _ _ e) in
-    run-bytes dev chain (some-size dev store (some-block dev store (k .stored) (k .even))) b (length (commandsIn chain)) 0 y l)
+    let k = callable dev chain main store map answers (eqb-true _ _ e) in
+    run-bytes dev chain (some-size dev store (k .some-block)) (k .few-alternates) b (length (commandsIn chain)) 0 y l)
     (λ _. l))

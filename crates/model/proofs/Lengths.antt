@@ -1,24 +1,22 @@
 -- The buffers keep their lengths: main storage, the store and the answers, whatever the call.
---     blocks-into-length, delivered-length   the two ways in which bytes are stored
+--     delivered-length                       bytes that are stored in main storage
 --     step-lengths                           one command
 --     Going                                  what holds of a system between two commands of a chain
 --     call-lengths                           the call
 -- Assumes nothing.
-use Prim.Native.Nat.{ℕ, zero, suc, _+_, _*_, _/_, _%_, _≤_, _<_, min}
-use mathlib.Core.Path.{_≡_, refl, sym, _∙_}
+use Prim.Native.Nat.{ℕ, zero, suc, _+_, _*_, _≤_, _<_, min}
+use mathlib.Core.Path.{_≡_, refl, _∙_}
 use mathlib.Core.List.{List}
-use lib.ListN.{length, take, drop, length-append}
-use native.Mathlib.Nat.{mul-zero, mul-le-mul-right, div-mul-le-self, div-add-mod}
+use lib.ListN.{length, take, length-append}
 use native.Mathlib.Omega.{arith}
 use borrow.Author.Tests.{eqb-true}
-use Rattle.slices.specs.Parts.{pad}
-use Rattle.slices.proofs.Laws.{length-zeros, length-put, length-pad}
+use Rattle.slices.proofs.Laws.{length-zeros, length-put}
 use Rattle.model.specs.declared.record.Record.{Record}
 use Rattle.model.specs.declared.device.Device.{Device}
 use Rattle.model.specs.State.{State, Done}
 use Rattle.model.specs.Names.{NO-OPERATION}
 use Rattle.model.specs.Rules.{firstOf}
-use Rattle.model.specs.Lent.{blockStart, blockCount, blocksInto}
+use Rattle.model.specs.Lent.{blockCount}
 use Rattle.model.specs.Pieces.{Command, pieces, commandsIn, commandAt, total, delivered}
 use Rattle.model.specs.Parameters.{writes}
 use Rattle.model.specs.Causes.{callCauses}
@@ -28,25 +26,14 @@ use Rattle.model.specs.Chain.{System, system, stepAt, next, run, start, 
 use Rattle.model.specs.Safe.{Inside, Safe}
 use Rattle.numbers.proofs.Choice.{pick-ind}
 use Rattle.model.proofs.Pieces.{length-scattered, ccwsLeft, all-left, next-left}
+use Rattle.model.proofs.Blocks.{count-same, blocks-into-length}
 use Rattle.model.proofs.Steps.{Admitted, Cases, step-cases}
 use Rattle.model.proofs.Endings.{callable}
 use Rattle.model.proofs.Safety.{on-device, after-locate, safe-start, step-safe}
 
-pub blocks-into-length : (dev : Device) (store : List ℕ) (block n : ℕ) (bytes : List ℕ) → (block + n) * dev .block ≤ length store → length (blocksInto dev store block n bytes) ≡ length store
-unfolding blocksInto blockStart
-blocks-into-length dev store block zero bytes h = refl
-blocks-into-length dev store block (suc n) bytes h =
-    let e = length-put store (block * dev .block) (pad (dev .block) bytes) (rw (length-pad (dev .block) bytes) (omega arith)) in
-    blocks-into-length dev _ (block + 1) n (drop (dev .block) bytes) (rw e (omega arith)) ∙ e
-
 pub delivered-length : (c : Command) (main bytes : List ℕ) → Inside (pieces c) main → length (delivered c main bytes) ≡ length main
 unfolding delivered
 delivered-length c main bytes h = length-scattered (pieces c) main bytes h
-
--- blocks of the device lie in the store
-pub in-store : (dev : Device) (store : List ℕ) (n : ℕ) → n ≤ blockCount dev store → n * dev .block ≤ length store
-unfolding blockCount
-in-store dev store n h = omega (arith, mul-le-mul-right (dev .block) h, div-mul-le-self (length store) (dev .block))
 
 -- one command
 
@@ -70,7 +57,7 @@ module _ (dev : Device) (c : Command) (s : State) (main store : List ℕ) (h : S
         read = λ a x _. moved _ _ _ a (λ y. omega arith);
         write = λ _ _ f. record {
           main-length = refl;
-          store-length = blocks-into-length dev store _ _ _ (in-store dev store _ (on-device s _ h (after-locate writes s f)));
+          store-length = blocks-into-length dev (s .map) store _ _ _ (on-device s _ h (after-locate writes s f));
         };
         read-ipl = λ a x _. moved _ _ _ a (λ y. omega arith);
         sense = λ a x. moved _ _ _ a (λ y. omega arith);
@@ -101,17 +88,17 @@ answers-length c d = rw (length-append, length-zeros, answer-length) (omega arit
 module _ (dev : Device) (chain : List ℕ) (first : System) (some : 0 < blockCount dev (first .store)) where
   pub next-going : (i : ℕ) (y : System) → i < length (commandsIn chain) → (y .reached + ccwsLeft chain i) * answerSize ≤ length (first .answers) → Going dev first y
       → Going dev first (next dev chain i y) × ((next dev chain i y .reached + ccwsLeft chain (i + 1)) * answerSize ≤ length (first .answers))
-  unfolding next stepAt blockCount
+  unfolding next stepAt
   next-going i y n h g =
       let c : Command = commandAt chain i in
       let l = step-lengths dev c (y .state) (y .main) (y .store) (g .safe) in
-      let more : 0 < length (y .store) / dev .block = rw (g .store-length) some in
+      let more : 0 < blockCount dev (y .store) = rw (count-same dev (y .store) (first .store) (g .store-length)) some in
       let few = next-left chain i (step dev c (y .state) (y .main) (y .store) .done) n in (
         record {
           main-length = l .main-length ∙ g .main-length;
           store-length = l .store-length ∙ g .store-length;
           answers-length = length-put (y .answers) (y .reached * answerSize) _ (rw (answers-length, g .answers-length) (omega (arith, few, h))) ∙ g .answers-length;
-          safe = rw (l .store-length) (step-safe dev c (y .state) (y .main) (y .store) more (g .safe));
+          safe = rw (count-same dev _ (y .store) (l .store-length)) (step-safe dev c (y .state) (y .main) (y .store) more (g .safe));
         },
         omega (arith, few, h),
       )
@@ -130,22 +117,14 @@ pub record SameSizes (main store answers : List ℕ) (r : Called) : Type 0 where
   pub store-length : length (r .store) ≡ length store
   pub answers-length : length (r .answers) ≡ length answers
 
-pub some-block : (dev : Device) (store : List ℕ) → (length store ≡ 0 → ⊥) → length store % dev .block ≡ 0 → 0 < blockCount dev store
-unfolding blockCount
-some-block dev store n e = go (length store / dev .block) refl
-  where
-    go : (k : ℕ) → length store / dev .block ≡ k → 0 < k
-    go zero z = absurd (n (sym (div-add-mod (length store) (dev .block)) ∙ rw (z, e, mul-zero) refl))
-    go (suc k) z = omega arith
-
-pub call-lengths : (dev : Device) (chain main store : List ℕ) (u : Record) (answers : List ℕ) → SameSizes main store answers (callOf dev chain main store u answers)
+pub call-lengths : (dev : Device) (chain main store : List ℕ) (u : Record) (map answers : List ℕ) → SameSizes main store answers (callOf dev chain main store u map answers)
 unfolding callOf
-call-lengths dev chain main store u answers =
-    let y : System = system (start u) main store answers 0 in
-    pick-ind (λ (z : System). SameSizes main store answers (called (firstOf (callCauses dev chain main store answers)) z)) _ _ _
+call-lengths dev chain main store u map answers =
+    let y : System = system (start u map) main store answers 0 in
+    pick-ind (λ (z : System). SameSizes main store answers (called (firstOf (callCauses dev chain main store map answers)) z)) _ _ _
     (λ b.
-    let k = callable dev chain main store answers (eqb-true _ _ b) in
-    let g = run-going dev chain y (some-block dev store (k .stored) (k .even)) (length (commandsIn chain)) 0 y (omega arith) (omega (arith, k .whole, k .answered, all-left chain))
-    (record { main-length = refl; store-length = refl; answers-length = refl; safe = safe-start u _ }) in
+    let k = callable dev chain main store map answers (eqb-true _ _ b) in
+    let g = run-going dev chain y (k .some-block) (length (commandsIn chain)) 0 y (omega arith) (omega (arith, k .whole, k .answered, all-left chain))
+    (record { main-length = refl; store-length = refl; answers-length = refl; safe = safe-start u map _ }) in
     record { main-length = g .main-length; store-length = g .store-length; answers-length = g .answers-length })
     (λ _. record { main-length = refl; store-length = refl; answers-length = refl })

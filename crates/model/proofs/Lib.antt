@@ -2,12 +2,15 @@ pub mod Verdicts
 pub mod Leaving
 pub mod Pieces
 pub mod Runs
+pub mod Alternates
+pub mod Formats
+pub mod Blocks
 pub mod Steps
 pub mod Refusals
 pub mod Endings
 pub mod Safety
 pub mod Lengths
-pub mod Blocks
+pub mod Mapped
 pub mod Fields
 pub mod Kept
 pub mod Records
@@ -19,7 +22,9 @@ pub mod Reached
 pub mod OneByOne
 pub mod Written
 pub mod Places
+pub mod AlikeMaps
 pub mod Alike
+pub mod AlikeStores
 pub mod AlikeVerdicts
 pub mod AlikeCommands
 pub mod MovedRun
@@ -28,6 +33,7 @@ pub mod Inputs
 pub mod Worked
 pub mod WorkedPieces
 pub mod WorkedClass
+pub mod WorkedAlternates
 pub mod Overruled
 pub mod Corners
 pub mod WrongUnits

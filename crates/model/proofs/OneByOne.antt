@@ -18,7 +18,7 @@ use Rattle.numbers.proofs.Choice.{pick-ind}
 use Rattle.slices.specs.Parts.{part}
 use Rattle.slices.proofs.Laws.{length-part, get-part, get-behind, part-behind, part-drop, part-between, drop-take}
 use Rattle.model.specs.declared.device.Device.{Device}
-use Rattle.model.specs.Lent.{recordOf}
+use Rattle.model.specs.Lent.{recordOf, mapOf}
 use Rattle.model.specs.Answer.{answerSize}
 use Rattle.model.specs.Chain.{Called, callOf}
 use Rattle.model.specs.Host.{Hosted, resultOf, hostCallOf}
@@ -34,7 +34,7 @@ use Rattle.model.proofs.Class.{class-right}
 module _ (dev : Device) (chain main store unit answers : List ℕ) where
   host-answers : length (hostCallOf dev chain main store unit answers .answers) ≡ length answers
   unfolding hostCallOf
-  host-answers = pick-ind (λ (h : Hosted). length (h .answers) ≡ length answers) _ _ _ (λ _. call-lengths dev chain main store (recordOf unit) answers .answers-length) (λ _. refl)
+  host-answers = pick-ind (λ (h : Hosted). length (h .answers) ≡ length answers) _ _ _ (λ _. call-lengths dev chain main store (recordOf unit) (mapOf unit) answers .answers-length) (λ _. refl)
 
   pub host-unused : (at : ℕ) → hostCallOf dev chain main store unit answers .result % 256 * answerSize ≤ at
       → getD (hostCallOf dev chain main store unit answers .answers) at 0 ≡ getD answers at 0
@@ -42,11 +42,11 @@ module _ (dev : Device) (chain main store unit answers : List ℕ) where
   host-unused at =
       pick-ind (λ (h : Hosted). h .result % 256 * answerSize ≤ at → getD (h .answers) at 0 ≡ getD answers at 0) _ _ _
       (λ e.
-      let c : Called = callOf dev chain main store (recordOf unit) answers in
-      let few = callable dev chain main store answers (host-passed dev chain main store unit answers (eqb-true _ _ e) .0) .few in
-      let fits : c .reached < 256 = omega (arith, few, call-reached dev chain main store (recordOf unit) answers .1) in
+      let c : Called = callOf dev chain main store (recordOf unit) (mapOf unit) answers in
+      let few = callable dev chain main store (mapOf unit) answers (host-passed dev chain main store unit answers (eqb-true _ _ e) .0) .few in
+      let fits : c .reached < 256 = omega (arith, few, call-reached dev chain main store (recordOf unit) (mapOf unit) answers .1) in
       let reads = result-reads (c .cause) (c .reached) fits in
-      rw (reads .1) (λ h. call-each dev chain main store (recordOf unit) answers .not-reached at h))
+      rw (reads .1) (λ h. call-each dev chain main store (recordOf unit) (mapOf unit) answers .not-reached at h))
       (λ _ _. refl)
 
 head-long : (h : Hosted) → length (resultHead h) ≡ headSize

@@ -6,7 +6,7 @@ use lib.ListN.{drop, replicate, getD}
 use Rattle.numbers.specs.Big.{be2, be3}
 use Rattle.model.specs.declared.record.Record.{Record}
 use Rattle.model.specs.Names.{NO-OPERATION, DEFINE-EXTENT, LOCATE, WRITE, READ-IPL, SENSE, READ-LOG, format, write-data, write-check, read-replicated, channel-status-at, residual-at}
-use Rattle.model.specs.Lent.{newRecord}
+use Rattle.model.specs.Lent.{newRecord, newMap}
 use Rattle.model.specs.Answer.{answerSize}
 use Rattle.model.specs.Chain.{Called}
 use Rattle.model.proofs.Opened.{opened}
@@ -42,7 +42,7 @@ counted = record
     { sense = replicate 24 0xEE; «blocks_read» = 1 ∷ 2 ∷ 3 ∷ []; «blocks_written» = 4 ∷ 5 ∷ 6 ∷ []; movements = 7 ∷ 8 ∷ []; ready = 1; «read_only» = 0 }
 
 abbrev logged : ℕ → Lent
-logged count = record { chain = ccw READ-LOG 0 0x20 count; main = replicate 24 0xFF; store = device 1; unit = counted; answers = replicate 8 0 }
+logged count = record { chain = ccw READ-LOG 0 0x20 count; main = replicate 24 0xFF; store = device 1; unit = counted; alternates = 0; map = newMap; answers = replicate 8 0 }
 
 -- of the answer to command i: its channel status, its residual and its cause
 abbrev leftOf : ℕ → Called → List ℕ
@@ -97,7 +97,7 @@ lines =
     }
     -- 5.3: format 1 has no table of messages
     ∷ record {
-      input = record { chain = ccw NO-OPERATION 0 0x00 1; main = []; store = device 1; unit = newRecord 0 0; answers = replicate 8 0 };
+      input = record { chain = ccw NO-OPERATION 0 0x00 1; main = []; store = device 1; unit = newRecord 0 0; alternates = 0; map = newMap; answers = replicate 8 0 };
       seen = λ r. r .unit .sense;
       want = 0x40 ∷ 0 ∷ 0 ∷ 0 ∷ 0 ∷ 0 ∷ 0 ∷ 0x10 ∷ replicate 16 0;
     }
@@ -108,7 +108,7 @@ lines =
     ∷ badLocation 0xC0 (location read-replicated 3 2 0) 35 ∷ badLocation 0xC0 (location write-data 0 4 0) 36 ∷ badLocation 0x40 (location write-data 0 1 0) 37
     ∷ badLocation 0xC0 (location format 0 1 2) 39
     ∷ record {
-      input = record { chain = longLocate; main = extent 1 0 2 ++ location write-data 0 1 0 ++ replicate 4 0; store = device 4; unit = newRecord 1 1; answers = replicate 16 0xFF };
+      input = record { chain = longLocate; main = extent 1 0 2 ++ location write-data 0 1 0 ++ replicate 4 0; store = device 4; unit = newRecord 1 1; alternates = 0; map = newMap; answers = replicate 16 0xFF };
       seen = leftOf 1;
       want = 0 ∷ 4 ∷ 38 ∷ [];
     }

@@ -21,24 +21,26 @@ use Rattle.numbers.specs.Bytes.{AreBytes}
 use Rattle.slices.specs.Parts.{zeros, part, put}
 use Rattle.slices.proofs.Laws.{length-zeros, length-put, get-after, get-part, by-place, part-apart, part-put}
 use Rattle.model.specs.declared.record.Record.{Record}
+use Rattle.model.specs.declared.kind.Kind.{Kind}
 use Rattle.model.specs.declared.device.Device.{Device}
 use Rattle.model.specs.State.{State, Done}
 use Rattle.model.specs.Rules.{firstOf}
 use Rattle.model.specs.Pieces.{Command, commandsIn, commandAt}
-use Rattle.model.specs.Causes.{callCauses, causesOf, verdict}
-use Rattle.model.specs.Commands.{after, senseGiven, refused, refusal}
+use Rattle.model.specs.Alternates.{mapEntries, mapSize}
+use Rattle.model.specs.Causes.{callCauses, causesOf, verdict, kindOf}
+use Rattle.model.specs.Commands.{after, leaves, senseGiven, refused, refusal}
 use Rattle.model.specs.Names.{cause-at}
 use Rattle.model.specs.Answer.{channelStatus, residual, filled, answerSize, answerOf, answersOf, answered, goesOn}
 use Rattle.model.specs.Chain.{System, system, stepAt, next, more, run, start, Called, called, callOf}
 use Rattle.model.specs.Exactly.{GivenExactly}
 use Rattle.model.specs.Reached.{found, doneAt, answersAt, lastAt, refusedAnswers, Answered, RefusedThere, EachReached, Numbers}
 use Rattle.numbers.proofs.Choice.{pick-ind}
-use Rattle.model.proofs.Leaving.{channel-refused}
+use Rattle.model.proofs.Leaving.{leaves-ind, channel-refused}
 use Rattle.model.proofs.Steps.{step-cause, step-refused}
 use Rattle.model.proofs.Endings.{callable}
 use Rattle.model.proofs.Pieces.{ccwsLeft, all-left, next-left, command-small}
-use Rattle.model.proofs.Lengths.{answers-length, some-block}
-use Rattle.model.proofs.Fields.{IsRecord, step-fields}
+use Rattle.model.proofs.Lengths.{answers-length}
+use Rattle.model.proofs.Fields.{Sized, IsRecord, step-fields}
 use Rattle.model.proofs.Kept.{answer-holds, IsLent, next-bytes, some-size}
 use Rattle.model.proofs.Exactly.{step-exactly}
 
@@ -49,6 +51,10 @@ module _ (dev : Device) (chain : List ℕ) where
   unfolding answersOf filled answerOf channelStatus residual
   refused-answers c s w p n = rw (channel-refused w _ false n) refl
 
+  refused-map : (k : Kind) (s : State) (sense : List ℕ) → leaves k s sense .map ≡ s .map
+  unfolding after
+  refused-map k s sense = leaves-ind (λ (t : State). t .map ≡ s .map) k s sense refl refl refl
+
   pub next-refused : (i : ℕ) (f : System) → (stepAt dev chain i f .done .cause ≡ 0 → ⊥) → (w : ℕ)
       → RefusedThere (commandAt chain i) f (stepAt dev chain i f .done .cause) (called w (next dev chain i f))
   unfolding next stepAt refused after answered filled
@@ -57,7 +63,7 @@ module _ (dev : Device) (chain : List ℕ) where
       let v : ℕ = verdict dev c (f .state) (f .main) (f .store) in
       let given : (v ≡ 0 → ⊥) = λ z. n (step-cause dev c (f .state) (f .main) (f .store) ∙ z) in
       let e = step-refused dev c (f .state) (f .main) (f .store) given in
-      record { last = rw e refl; main = rw e refl; store = rw e refl; unit = rw e refl; answers = rw (e, refused-answers c (f .state) v (senseGiven v c (f .main)) given) refl }
+      record { last = rw e refl; main = rw e refl; store = rw e refl; map = rw e (refused-map (kindOf v) (f .state) (senseGiven v c (f .main))); unit = rw e refl; answers = rw (e, refused-answers c (f .state) v (senseGiven v c (f .main)) given) refl }
 
   refused-stops : (i : ℕ) (f : System) → (stepAt dev chain i f .done .cause ≡ 0 → ⊥) → more dev chain i f ≡ false
   unfolding more goesOn
@@ -203,25 +209,25 @@ module _ (dev : Device) (chain : List ℕ) where
 
 -- the call
 
-pub call-each : (dev : Device) (chain main store : List ℕ) (u : Record) (answers : List ℕ)
-    → EachReached dev chain (system (start u) main store answers 0) (callOf dev chain main store u answers)
+pub call-each : (dev : Device) (chain main store : List ℕ) (u : Record) (map answers : List ℕ)
+    → EachReached dev chain (system (start u map) main store answers 0) (callOf dev chain main store u map answers)
 unfolding callOf
-call-each dev chain main store u answers =
-    let y : System = system (start u) main store answers 0 in
-    let w : ℕ = firstOf (callCauses dev chain main store answers) in
+call-each dev chain main store u map answers =
+    let y : System = system (start u map) main store answers 0 in
+    let w : ℕ = firstOf (callCauses dev chain main store map answers) in
     pick-ind (λ (z : System). EachReached dev chain y (called w z)) _ _ _
     (λ b.
-    let k = callable dev chain main store answers (eqb-true _ _ b) in
+    let k = callable dev chain main store map answers (eqb-true _ _ b) in
     run-each dev chain y (length (commandsIn chain)) (omega arith) (omega (arith, k .whole, k .answered, all-left chain)) w)
     (λ _. record { answered = λ i h. absurd (omega arith); refused = λ i h c. absurd (omega arith); not-reached = λ at h. refl })
 
 -- the numbers of an answer
 
-module _ (dev : Device) (chain : List ℕ) (h : 1 ≤ dev .block) (b : AreBytes chain) where
+module _ (dev : Device) (chain : List ℕ) (h : 1 ≤ dev .block) (few : dev .alternates ≤ mapEntries) (b : AreBytes chain) where
   found-bytes : (i : ℕ) (y : System) → IsLent y → IsLent (found dev chain i y)
   unfolding found
   found-bytes zero y l = l
-  found-bytes (suc i) y l = next-bytes dev chain h b i _ (found-bytes i y l)
+  found-bytes (suc i) y l = next-bytes dev chain h few b i _ (found-bytes i y l)
 
   each-numbers : (y : System) (i : ℕ) (r : Called) → IsLent y → Answered dev chain y i r → Numbers (commandAt chain i) (doneAt dev chain i y) (lastAt dev chain i y) r
   unfolding stepAt
@@ -230,7 +236,7 @@ module _ (dev : Device) (chain : List ℕ) (h : 1 ≤ dev .block) (b : AreBytes 
       let c : Command = commandAt chain i in
       let d : Done = doneAt dev chain i y in
       let k = found-bytes i y l in
-      let s = step-fields dev c (f .state) (f .main) (f .store) h (k .unit-fields) (k .main-bytes) (k .store-bytes) (k .located-fits) in
+      let s = step-fields dev c (f .state) (f .main) (f .store) h few (k .unit-fields) (k .map-fields) (k .main-bytes) (k .store-bytes) (k .located-fits) in
       let q = answer-holds c d (command-small chain i b) (s .cause-byte) (s .blocks-fit) in
       let at : (n : ℕ) → n < answerSize → getD (r .answers) (lastAt dev chain i y + n) 0 ≡ getD (answerOf c d) n 0 = λ n m. last-answer dev chain c d (r .answers) (f .reached) n m (a .kept) in
       record {
@@ -240,20 +246,20 @@ module _ (dev : Device) (chain : List ℕ) (h : 1 ≤ dev .block) (b : AreBytes 
       }
 
 -- a call that reached a command was not refused
-reached-ran : (dev : Device) (chain main store : List ℕ) (u : Record) (answers : List ℕ) (i : ℕ)
-    → i < callOf dev chain main store u answers .reached → firstOf (callCauses dev chain main store answers) ≡ 0
+reached-ran : (dev : Device) (chain main store : List ℕ) (u : Record) (map answers : List ℕ) (i : ℕ)
+    → i < callOf dev chain main store u map answers .reached → firstOf (callCauses dev chain main store map answers) ≡ 0
 unfolding callOf
-reached-ran dev chain main store u answers i =
-    let w : ℕ = firstOf (callCauses dev chain main store answers) in
+reached-ran dev chain main store u map answers i =
+    let w : ℕ = firstOf (callCauses dev chain main store map answers) in
     pick-ind (λ (z : System). i < z .reached → w ≡ 0) _ _ _ (λ b _. eqb-true _ _ b) (λ _ l. absurd (omega arith))
 
-pub call-numbers : (dev : Device) (chain main store : List ℕ) (u : Record) (answers : List ℕ)
-    → AreBytes chain → AreBytes main → AreBytes store → IsRecord u → AreBytes answers
-    → (i : ℕ) → found dev chain i (system (start u) main store answers 0) .reached < callOf dev chain main store u answers .reached
-    → Numbers (commandAt chain i) (doneAt dev chain i (system (start u) main store answers 0)) (lastAt dev chain i (system (start u) main store answers 0)) (callOf dev chain main store u answers)
+pub call-numbers : (dev : Device) (chain main store : List ℕ) (u : Record) (map answers : List ℕ)
+    → AreBytes chain → AreBytes main → AreBytes store → IsRecord u → Sized mapSize map → AreBytes answers
+    → (i : ℕ) → found dev chain i (system (start u map) main store answers 0) .reached < callOf dev chain main store u map answers .reached
+    → Numbers (commandAt chain i) (doneAt dev chain i (system (start u map) main store answers 0)) (lastAt dev chain i (system (start u map) main store answers 0)) (callOf dev chain main store u map answers)
 unfolding start
-call-numbers dev chain main store u answers b m d r a i l =
-    let y : System = system (start u) main store answers 0 in
-    let k = callable dev chain main store answers (reached-ran dev chain main store u answers _ l) in
-    each-numbers dev chain (some-size dev store (some-block dev store (k .stored) (k .even))) b y i _
-    (record { unit-fields = r; main-bytes = m; store-bytes = d; answers-bytes = a; located-fits = omega arith }) (call-each dev chain main store u answers .answered i l)
+call-numbers dev chain main store u map answers b m d r p a i l =
+    let y : System = system (start u map) main store answers 0 in
+    let k = callable dev chain main store map answers (reached-ran dev chain main store u map answers _ l) in
+    each-numbers dev chain (some-size dev store (k .some-block)) (k .few-alternates) b y i _
+    (record { unit-fields = r; map-fields = p; main-bytes = m; store-bytes = d; answers-bytes = a; located-fits = omega arith }) (call-each dev chain main store u map answers .answered i l)

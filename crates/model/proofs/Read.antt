@@ -34,9 +34,9 @@ pub extent-reads : (dev : Device) (blocks : ℕ) (p : List ℕ) → firstOf (ext
 unfolding extentCauses bytesRead oneOf pick
 extent-reads dev blocks p = table-reads extentLength (extentCauses dev blocks p) refl
 
-pub location-reads : (s : State) (p : List ℕ) → firstOf (locationCauses s p) =? 0 ≡ false → bytesRead (firstOf (locationCauses s p)) ≡ locateLength
+pub location-reads : (dev : Device) (s : State) (p : List ℕ) → firstOf (locationCauses dev s p) =? 0 ≡ false → bytesRead (firstOf (locationCauses dev s p)) ≡ locateLength
 unfolding locationCauses permissionCauses bytesRead oneOf pick
-location-reads s p = table-reads locateLength (locationCauses s p) refl
+location-reads dev s p = table-reads locateLength (locationCauses dev s p) refl
 
 pub unread-shows : (w : ℕ) → bytesRead w ≡ 0 → w =? 39 ≡ false
 unfolding bytesRead oneOf pick
@@ -63,11 +63,11 @@ module _ (dev : Device) (c : Command) (s : State) (main store : List ℕ) where
   unfolding defineExtentCauses firstOf bytesRead oneOf pick
   extent-fits blocks p = pick-ind Read (total c <? extentLength) _ _ (λ _. omega arith) (λ b. omega (arith, read-most (pick (s .defined) 21 (firstOf (extentCauses dev blocks p))), ltb-false (total c) extentLength b))
 
-  location-most : (p : List ℕ) → bytesRead (firstOf (locationCauses s p)) ≤ locateLength
+  location-most : (p : List ℕ) → bytesRead (firstOf (locationCauses dev s p)) ≤ locateLength
   unfolding locationCauses permissionCauses bytesRead oneOf pick
-  location-most p = every-all (λ (w : ℕ). bytesRead w ≤ locateLength) (λ (w : ℕ). bytesRead w <? 9) (λ w e. omega (arith, ltb-true (bytesRead w) 9 e)) (locationCauses s p) refl (omega arith)
+  location-most p = every-all (λ (w : ℕ). bytesRead w ≤ locateLength) (λ (w : ℕ). bytesRead w <? 9) (λ w e. omega (arith, ltb-true (bytesRead w) 9 e)) (locationCauses dev s p) refl (omega arith)
 
-  locate-fits : (p : List ℕ) → Read (firstOf (locateCauses c s p))
+  locate-fits : (p : List ℕ) → Read (firstOf (locateCauses dev c s p))
   unfolding locateCauses firstOf bytesRead oneOf pick
   locate-fits p =
       pick-ind Read (not (s .defined)) _ _ (λ _. omega arith) (λ _.

@@ -1,8 +1,8 @@
 -- Demand 1, of refusals.
---     call-refused      a call with cause 1 to 5 leaves all that it was lent as it was
+--     call-refused      a call with cause 1 to 5 or 8 leaves all that it was lent as it was
 --     call-ran          a call with cause 0 is the run of its chain
---     host-refused      so does a call from C, with cause 1 to 6
---     step-untouched    a refused command leaves store and main storage as they were, moves no block, and has read of its
+--     host-refused      so does a call from C, with cause 1 to 6 or 8
+--     step-untouched    a refused command leaves store, main storage and map as they were, moves no block, and has read of its
 --                       parameters what its cause says; of the record it changes the sense alone, and as a program check nothing
 -- Assumes nothing.
 use Prim.Native.Nat.{ℕ}
@@ -28,16 +28,16 @@ use Rattle.model.proofs.Steps.{step-cause, step-refused}
 
 -- the call
 
-pub call-refused : (dev : Device) (chain main store : List ℕ) (u : Record) (answers : List ℕ) (w : ℕ)
-    → firstOf (callCauses dev chain main store answers) ≡ w → (w ≡ 0 → ⊥)
-    → callOf dev chain main store u answers ≡ record { cause = w; reached = 0; unit = u; main = main; store = store; answers = answers }
+pub call-refused : (dev : Device) (chain main store : List ℕ) (u : Record) (map answers : List ℕ) (w : ℕ)
+    → firstOf (callCauses dev chain main store map answers) ≡ w → (w ≡ 0 → ⊥)
+    → callOf dev chain main store u map answers ≡ record { cause = w; reached = 0; unit = u; map = map; main = main; store = store; answers = answers }
 unfolding callOf start pick
-call-refused dev chain main store u answers w e n = rw (e, ne-eqb w 0 n)
+call-refused dev chain main store u map answers w e n = rw (e, ne-eqb w 0 n)
 
-pub call-ran : (dev : Device) (chain main store : List ℕ) (u : Record) (answers : List ℕ) → firstOf (callCauses dev chain main store answers) ≡ 0
-    → callOf dev chain main store u answers ≡ called 0 (run dev chain (length (commandsIn chain)) 0 (system (start u) main store answers 0))
+pub call-ran : (dev : Device) (chain main store : List ℕ) (u : Record) (map answers : List ℕ) → firstOf (callCauses dev chain main store map answers) ≡ 0
+    → callOf dev chain main store u map answers ≡ called 0 (run dev chain (length (commandsIn chain)) 0 (system (start u map) main store answers 0))
 unfolding callOf pick
-call-ran dev chain main store u answers e = rw e
+call-ran dev chain main store u map answers e = rw e
 
 pub host-refused : (dev : Device) (chain main store unit answers : List ℕ) (w : ℕ)
     → firstOf (hostCauses dev chain main store unit answers) ≡ w → (w ≡ 0 → ⊥)
@@ -61,6 +61,7 @@ pub record Untouched (s : State) (main store : List ℕ) (o : Out) : Type 0 wher
   pub store-same : o .store ≡ store
   pub parameters-read : o .done .moved ≡ bytesRead (o .done .cause)
   pub no-block : o .done .blocks ≡ 0
+  pub map-same : o .done .state .map ≡ s .map
   pub unit-check : SameButSense (s .unit) (o .done .state .unit)
   pub program-check : kindOf (o .done .cause) ≡ ProgramCheck → o .done .state .unit ≡ s .unit
 
@@ -73,6 +74,7 @@ refused-untouched c s main store w =
       store-same = refl;
       parameters-read = refl;
       no-block = refl;
+      map-same = leaves-ind (λ (t : State). t .map ≡ s .map) (kindOf w) s (senseGiven w c main) refl refl refl;
       unit-check = leaves-ind (λ (t : State). SameButSense (s .unit) (t .unit)) (kindOf w) s (senseGiven w c main) same same
           (record { blocks-read = refl; blocks-written = refl; movements = refl; ready = refl; read-only = refl });
       program-check = λ e. rw e;

@@ -1,5 +1,8 @@
 -- A chain's state stays on the device: the extent that stands is on it, and so are the blocks of the LOCATE before.
 --     DefineOk, LocateOk   what is known of the parameters where no cause of the table holds
+--     location-ok, location-takes
+--                          a LOCATE that its parameters do not refuse is in the extent; a format has an alternate to take
+--     located-below        the blocks of a LOCATE in an extent of a device are below its count
 --     class-a-usable       blocks of 512 bytes may be
 --     step-safe            a command leaves a safe state
 --     on-device            the blocks of the LOCATE before are blocks of the device
@@ -16,7 +19,9 @@ use Rattle.model.specs.declared.record.Record.{Record}
 use Rattle.model.specs.declared.state.Before.{Before}
 use Rattle.model.specs.declared.device.Device.{Device}
 use Rattle.model.specs.State.{State}
-use Rattle.numbers.specs.Choice.{_<?_}
+use Rattle.numbers.specs.Choice.{_<?_, _=?_}
+use Rattle.model.specs.Names.{format}
+use Rattle.model.specs.Alternates.{unusedIn}
 use Rattle.model.specs.Lent.{blockCount}
 use Rattle.model.specs.Pieces.{Command, total}
 use Rattle.model.specs.Parameters.{extentLength, extentIn, locateLength, locatedIn, replicationIn, processed, address, outside}
@@ -31,8 +36,8 @@ use Rattle.model.specs.Chain.{classA}
 use Rattle.model.proofs.Leaving.{leaves-ind}
 use Rattle.model.proofs.Steps.{Cases, step-cases}
 
-pub class-a-usable : Usable classA
-class-a-usable = record { some-size = omega arith; small-size = omega arith }
+pub class-a-usable : (alternates : ℕ) → Usable (classA alternates)
+class-a-usable alternates = record { some-size = omega arith; small-size = omega arith }
 
 -- parameters that no cause refuses
 
@@ -53,25 +58,39 @@ pub record LocateOk (c : Command) (s : State) (l : Located) : Type 0 where
   pub placed : InExtent (s .extent) l
 
 -- a replicated read processes at least the blocks of one unit
-processed-covers : (c : Command) (s : State) (p : List ℕ) → Failed (locateCauses c s p) → locatedIn p .blocks ≤ processed (locatedIn p) (replicationIn p)
-unfolding locateCauses locationCauses permissionCauses processed
-processed-covers c s p f =
+processed-covers : (dev : Device) (s : State) (p : List ℕ) → Failed (locationCauses dev s p) → locatedIn p .blocks ≤ processed (locatedIn p) (replicationIn p)
+unfolding locationCauses permissionCauses processed
+processed-covers dev s p f =
     pick-ind (λ (n : ℕ). locatedIn p .blocks ≤ n) _ _ _
-    (λ b. ltb-false _ _ (either-false _ _ (both-false _ _ (f .1 .1 .1 .1 .1 .0) b) .0))
+    (λ b. ltb-false _ _ (either-false _ _ (both-false _ _ (f .1 .1 .1 .0) b) .0))
     (λ b. omega arith)
 
-pub locate-ok : (c : Command) (s : State) (p : List ℕ) → Failed (locateCauses c s p) → LocateOk c s (locatedIn p)
-unfolding locateCauses locationCauses permissionCauses outside
-locate-ok c s p f =
-    let k = processed-covers c s p f in
-    let n = eqb-false (locatedIn p .blocks) 0 (either-false _ _ (f .1 .1 .1 .1 .0) .0) in
-    let o = either-false (locatedIn p .displacement .0 <? s .extent .first .0) (s .extent .last .0 + 1 <? locatedIn p .displacement .0 + processed (locatedIn p) (replicationIn p)) (f .1 .1 .1 .1 .1 .1 .0) in
+pub location-ok : (dev : Device) (s : State) (p : List ℕ) → Failed (locationCauses dev s p) → InExtent (s .extent) (locatedIn p)
+unfolding locationCauses permissionCauses outside
+location-ok dev s p f =
+    let k = processed-covers dev s p f in
+    let n = eqb-false (locatedIn p .blocks) 0 (either-false _ _ (f .1 .1 .0) .0) in
+    let o = either-false (locatedIn p .displacement .0 <? s .extent .first .0) (s .extent .last .0 + 1 <? locatedIn p .displacement .0 + processed (locatedIn p) (replicationIn p)) (f .1 .1 .1 .1 .0) in
     let h : locatedIn p .displacement .0 + processed (locatedIn p) (replicationIn p) ≤ s .extent .last .0 + 1 = ltb-false _ _ (o .1) in
-    record {
-      defined = not-false _ (f .0);
-      long = ltb-false _ _ (f .1 .0);
-      placed = record { some = omega (arith, n); from-first = ltb-false _ _ (o .0); to-last = omega (arith, k, h) };
-    }
+    record { some = omega (arith, n); from-first = ltb-false _ _ (o .0); to-last = omega (arith, k, h) }
+
+-- a format that no cause refuses has an alternate to take
+pub location-takes : (dev : Device) (s : State) (p : List ℕ) → Failed (locationCauses dev s p) → locatedIn p .operation =? format ≡ true → unusedIn (s .map) (dev .alternates) < dev .alternates
+unfolding locationCauses permissionCauses
+location-takes dev s p f b = ltb-true _ _ (not-false _ (both-false _ _ (f .1 .1 .1 .1 .1 .1 .1 .0) b))
+
+pub locate-ok : (dev : Device) (c : Command) (s : State) (p : List ℕ) → Failed (locateCauses dev c s p) → LocateOk c s (locatedIn p)
+unfolding locateCauses
+locate-ok dev c s p f = record { defined = not-false _ (f .0); long = ltb-false _ _ (f .1 .0); placed = location-ok dev s p (f .1 .1) }
+
+pub format-takes : (dev : Device) (c : Command) (s : State) (p : List ℕ) → Failed (locateCauses dev c s p) → locatedIn p .operation =? format ≡ true → unusedIn (s .map) (dev .alternates) < dev .alternates
+unfolding locateCauses
+format-takes dev c s p f = location-takes dev s p (f .1 .1)
+
+-- the blocks of a LOCATE in an extent of a device are below its count
+pub located-below : (e : Extent) (l : Located) (blocks : ℕ) → OnDevice e blocks → InExtent e l → address e (l .displacement) + l .blocks ≤ blocks
+unfolding address
+located-below e l blocks d i = omega (arith, i .from-first, i .to-last, d .order, d .inside)
 
 pub after-locate : (follows : ℕ → Bool) (s : State) → Failed (transferCauses follows s) → a-locate (s .before) ≡ true
 unfolding transferCauses
@@ -80,15 +99,13 @@ after-locate follows s f = not-false _ (f .0)
 -- the state
 
 pub on-device : (s : State) (blocks : ℕ) → Safe s blocks → a-locate (s .before) ≡ true → address (s .extent) (s .located .displacement) + s .located .blocks ≤ blocks
-unfolding address
 on-device s blocks h b =
     let l = h .located b in
-    let e = h .extent (l .0) in
-    omega (arith, l .1 .from-first, l .1 .to-last, e .order, e .inside)
+    located-below (s .extent) (s .located) blocks (h .extent (l .0)) (l .1)
 
-pub safe-start : (u : Record) (blocks : ℕ) → Safe (start u) blocks
+pub safe-start : (u : Record) (map : List ℕ) (blocks : ℕ) → Safe (start u map) blocks
 unfolding start
-safe-start u blocks = record { extent = λ e. absurd (false≢true e); located = λ e. absurd (false≢true e) }
+safe-start u map blocks = record { extent = λ e. absurd (false≢true e); located = λ e. absurd (false≢true e) }
 
 -- a state with the same extent, after a command that is no LOCATE
 safe-after : (s : State) (u : Record) (b : Before) (blocks : ℕ) → a-locate b ≡ false → Safe s blocks → Safe (after s u b) blocks
@@ -113,7 +130,7 @@ module _ (dev : Device) (c : Command) (s : State) (main store : List ℕ) (some 
             let d = define-ok dev n c s _ f in
             record { extent = λ _. d .placed; located = λ e. absurd (false≢true e) };
         locate = λ _ _ f.
-            let l = locate-ok c s _ f in
+            let l = locate-ok dev c s _ f in
             record { extent = k .extent; located = λ _. (l .defined, l .placed) };
         read = λ _ _ _. safe-after t _ _ n refl k;
         write = λ _ _ _. safe-after t _ _ n refl k;

@@ -52,7 +52,7 @@ none-of n e = false≢true e
 
 pub record OwnAs (dev : Device) (c : Command) (s : State) (main store : List ℕ) (own : List Rule) : Type 0 where
   pub define-extent : c .command ≡ DEFINE-EXTENT → own ≡ defineExtentCauses dev (blockCount dev store) c s (fetched c main extentLength)
-  pub locate : c .command ≡ LOCATE → own ≡ locateCauses c s (fetched c main locateLength)
+  pub locate : c .command ≡ LOCATE → own ≡ locateCauses dev c s (fetched c main locateLength)
   pub read : c .command ≡ READ → own ≡ transferCauses reads s
   pub write : c .command ≡ WRITE → own ≡ transferCauses writes s
   pub read-ipl : c .command ≡ READ-IPL → own ≡ readIplCauses s
@@ -60,7 +60,7 @@ pub record OwnAs (dev : Device) (c : Command) (s : State) (main store : List ℕ
 pub record AcceptedAs (dev : Device) (c : Command) (s : State) (main store : List ℕ) (o : Out) : Type 0 where
   pub no-operation : c .command ≡ NO-OPERATION → o ≡ noOperation s main store
   pub define-extent : c .command ≡ DEFINE-EXTENT → o ≡ defineExtent c s main store
-  pub locate : c .command ≡ LOCATE → o ≡ locate c s main store
+  pub locate : c .command ≡ LOCATE → o ≡ locate dev c s main store
   pub read : c .command ≡ READ → o ≡ read dev c s main store
   pub write : c .command ≡ WRITE → o ≡ write dev c s main store
   pub read-ipl : c .command ≡ READ-IPL → o ≡ readIpl dev c s main store
@@ -72,7 +72,7 @@ pub record PerformedAs (dev : Device) (c : Command) (s : State) (main store : Li
   pub no-operation : c .command ≡ NO-OPERATION → o ≡ noOperation s main store
   pub define-extent : c .command ≡ DEFINE-EXTENT
       → o ≡ decided c s main store (firstOf (defineExtentCauses dev (blockCount dev store) c s (fetched c main extentLength))) (defineExtent c (cleared s) main store)
-  pub locate : c .command ≡ LOCATE → o ≡ decided c s main store (firstOf (locateCauses c s (fetched c main locateLength))) (locate c (cleared s) main store)
+  pub locate : c .command ≡ LOCATE → o ≡ decided c s main store (firstOf (locateCauses dev c s (fetched c main locateLength))) (locate dev c (cleared s) main store)
   pub read : c .command ≡ READ → o ≡ decided c s main store (firstOf (transferCauses reads s)) (read dev c (cleared s) main store)
   pub write : c .command ≡ WRITE → o ≡ decided c s main store (firstOf (transferCauses writes s)) (write dev c (cleared s) main store)
   pub read-ipl : c .command ≡ READ-IPL → o ≡ decided c s main store (firstOf (readIplCauses s)) (readIpl dev c (cleared s) main store)
@@ -148,7 +148,7 @@ module _ (dev : Device) (c : Command) (s : State) (main store : List ℕ) where
   -- what holds of each command's own table, and of an empty one, holds of the one that the command has
   pub own-cases : (P : List Rule → Type 0)
       → (c .command ≡ DEFINE-EXTENT → P (defineExtentCauses dev (blockCount dev store) c s (fetched c main extentLength)))
-      → (c .command ≡ LOCATE → P (locateCauses c s (fetched c main locateLength)))
+      → (c .command ≡ LOCATE → P (locateCauses dev c s (fetched c main locateLength)))
       → (c .command ≡ READ-IPL → P (readIplCauses s))
       → (c .command ≡ READ → P (transferCauses reads s))
       → (c .command ≡ WRITE → P (transferCauses writes s))
@@ -170,7 +170,7 @@ pub record Cases (dev : Device) (c : Command) (s : State) (main store : List ℕ
   pub refusal : (w : ℕ) → (w ≡ 0 → ⊥) → verdict dev c s main store ≡ w → P (refused c s main store w)
   pub no-operation : c .command ≡ NO-OPERATION → P (noOperation (seen c s) main store)
   pub define-extent : Admitted c main → c .command ≡ DEFINE-EXTENT → Failed (defineExtentCauses dev (blockCount dev store) c s (fetched c main extentLength)) → P (defineExtent c (seen c s) main store)
-  pub locate : Admitted c main → c .command ≡ LOCATE → Failed (locateCauses c s (fetched c main locateLength)) → P (locate c (seen c s) main store)
+  pub locate : Admitted c main → c .command ≡ LOCATE → Failed (locateCauses dev c s (fetched c main locateLength)) → P (locate dev c (seen c s) main store)
   pub read : Admitted c main → c .command ≡ READ → Failed (transferCauses reads s) → P (read dev c (seen c s) main store)
   pub write : Admitted c main → c .command ≡ WRITE → Failed (transferCauses writes s) → P (write dev c (seen c s) main store)
   pub read-ipl : Admitted c main → c .command ≡ READ-IPL → Failed (readIplCauses s) → P (readIpl dev c (seen c s) main store)

@@ -6,7 +6,7 @@ use mathlib.Core.List.{List, [], _∷_, _++_, map}
 use lib.ListN.{drop, replicate}
 use Rattle.numbers.specs.Big.{bytes2}
 use Rattle.model.specs.Names.{NO-OPERATION, DEFINE-EXTENT, LOCATE, READ, WRITE, SENSE, write-data, read-data}
-use Rattle.model.specs.Lent.{recordBytes, newRecord}
+use Rattle.model.specs.Lent.{recordBytes, newRecord, newMap}
 use Rattle.model.specs.Class.{ClassRun, runClass}
 use Rattle.model.specs.Written.{written}
 use Rattle.model.proofs.Opened.{opened}
@@ -21,7 +21,7 @@ record Line : Type 0 where
   want : List ℕ
 
 abbrev got : Line → List ℕ
-got l = l .seen (runClass (l .chains) (l .main) (device 8) (recordBytes (newRecord 1 0)) (l .results))
+got l = l .seen (runClass 0 (l .chains) (l .main) (device 8) (recordBytes (newRecord 1 0) newMap) (l .results))
 
 abbrev wanted : Line → List ℕ
 wanted l = l .want

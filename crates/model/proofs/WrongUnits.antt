@@ -24,7 +24,7 @@ use Rattle.model.proofs.Inputs.{Lent, lent, theUnit, ccw}
 -- wrong units
 
 refusesAll : Lent → Called
-refusesAll l = record { cause = 1; reached = 0; unit = l .unit; main = l .main; store = l .store; answers = l .answers }
+refusesAll l = record { cause = 1; reached = 0; unit = l .unit; map = l .map; main = l .main; store = l .store; answers = l .answers }
 
 -- the answers with one byte set in each of the first n
 marked : ℕ → ℕ → ℕ → List ℕ → List ℕ
@@ -32,19 +32,19 @@ marked at byte zero answers = answers
 marked at byte (suc n) answers = put (marked at byte n answers) (n * 8 + at) (byte ∷ [])
 
 withAnswers : Called → List ℕ → Called
-withAnswers r answers = record { cause = r .cause; reached = r .reached; unit = r .unit; main = r .main; store = r .store; answers = answers }
+withAnswers r answers = record { cause = r .cause; reached = r .reached; unit = r .unit; map = r .map; main = r .main; store = r .store; answers = answers }
 
 endsAll : Lent → Called
 endsAll l = let r = theUnit l in withAnswers r (marked 0 0x0C (r .reached) (r .answers))
 
 idle : Lent → Called
-idle l = let r = theUnit l in record { cause = r .cause; reached = r .reached; unit = l .unit; main = l .main; store = l .store; answers = l .answers }
+idle l = let r = theUnit l in record { cause = r .cause; reached = r .reached; unit = l .unit; map = l .map; main = l .main; store = l .store; answers = l .answers }
 
 firstOnly : Lent → Called
 firstOnly l =
     let r = theUnit l in
-    let y = run classA (l .chain) 1 0 (system (start (l .unit)) (l .main) (l .store) (l .answers) 0) in
-    record { cause = r .cause; reached = r .reached; unit = y .state .unit; main = y .main; store = y .store; answers = r .answers }
+    let y = run (classA (l .alternates)) (l .chain) 1 0 (system (start (l .unit) (l .map)) (l .main) (l .store) (l .answers) 0) in
+    record { cause = r .cause; reached = r .reached; unit = y .state .unit; map = y .state .map; main = y .main; store = y .store; answers = r .answers }
 
 inventsBlocks : Lent → Called
 inventsBlocks l = let r = theUnit l in withAnswers r (marked 7 1 (r .reached) (r .answers))
@@ -52,7 +52,7 @@ inventsBlocks l = let r = theUnit l in withAnswers r (marked 7 1 (r .reached) (r
 inventsCounts : Lent → Called
 inventsCounts l =
     let r = theUnit l in
-    record { cause = r .cause; reached = r .reached; unit = movementCounted (r .unit); main = r .main; store = r .store; answers = r .answers }
+    record { cause = r .cause; reached = r .reached; unit = movementCounted (r .unit); map = r .map; main = r .main; store = r .store; answers = r .answers }
 
 -- each with an input on which it is seen to be wrong
 
@@ -82,7 +82,7 @@ wrongs =
 -- told apart: all that a call gives, as one list of numbers
 
 allGiven : Called → List ℕ
-allGiven r = r .cause ∷ r .reached ∷ recordBytes (r .unit) ++ r .main ++ r .store ++ r .answers
+allGiven r = r .cause ∷ r .reached ∷ recordBytes (r .unit) (r .map) ++ r .main ++ r .store ++ r .answers
 
 same : List ℕ → List ℕ → Bool
 same [] [] = true

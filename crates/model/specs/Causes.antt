@@ -1,6 +1,6 @@
 -- The table of causes (01, Causes): each cause with the rule by which it is given, in 01's order.
---     callCauses            1 to 5             before any command
---     hostCauses            1 to 6             the same, where the unit record comes as bytes
+--     callCauses            1 to 5, 8          before any command; up to 5 in lentCauses, 8 in mapCauses
+--     hostCauses            1 to 6, 8          the same, where the unit record comes as bytes
 --     channelCauses         13, 10, 11, 12     the channel's own tests of a command: program checks; from 10 on in pieceCauses
 --     unitCauses            44, 43             the unit's tests of any command that it sees
 --     defineExtentCauses    20 to 26           the commands' own tests; from 22 on in extentCauses
@@ -29,7 +29,8 @@ use Rattle.model.specs.State.{State}
 use Rattle.model.specs.Names.{NO-OPERATION, DEFINE-EXTENT, LOCATE, READ, WRITE, READ-IPL, SENSE, SENSE-TYPE, READ-LOG, chain-data, chain-command, format, read-replicated}
 use Rattle.numbers.specs.Choice.{_<?_, _=?_, pick, oneOf}
 use Rattle.model.specs.Rules.{Rule, _when_, firstOf}
-use Rattle.model.specs.Lent.{ccwSize, pieceAt, flag, blockCount, recordSize}
+use Rattle.model.specs.Alternates.{mapEntries, unusedIn, badMap}
+use Rattle.model.specs.Lent.{ccwSize, pieceAt, flag, storeBlocks, blockCount, recordSize, mapOf}
 use Rattle.model.specs.Pieces.{Command, total, fetched}
 use Rattle.model.specs.Parameters.{extentLength, extentIn, reservedIn, sizeIn, locateLength, locatedIn, modifiersIn, replicationIn, processed, operations, reads, writes, forbids, address, outside}
 
@@ -65,12 +66,14 @@ allChained chain (suc n) = followed (pieceAt chain n) && allChained chain n
 abbrev pub badChain : ℕ → Bool
 badChain held = held =? 0 || 256 <? held || not (held % ccwSize =? 0)
 
--- no block, a part of one, or more than 131,072
+-- no block, a part of one, or more than 131,072; "cause 2 also for more than 64 alternates or no primary"
 abbrev pub badStore : Device → List ℕ → Bool
-badStore dev store = length store =? 0 || not (length store % dev .block =? 0) || 131072 <? blockCount dev store
+badStore dev store =
+    length store =? 0 || not (length store % dev .block =? 0) || 131072 <? storeBlocks dev store
+    || mapEntries <? dev .alternates || not (dev .alternates <? storeBlocks dev store)
 
-unfoldable pub callCauses : Device → List ℕ → List ℕ → List ℕ → List ℕ → List Rule
-callCauses dev chain main store answers =
+unfoldable pub lentCauses : Device → List ℕ → List ℕ → List ℕ → List ℕ → List Rule
+lentCauses dev chain main store answers =
     1 when badChain (length chain)
     ∷ 2 when badStore dev store
     ∷ 3 when (16777216 <? length main)
@@ -78,8 +81,16 @@ callCauses dev chain main store answers =
     ∷ 5 when allChained chain (length chain / ccwSize)
     ∷ []
 
+-- "cause 8, after 6"
+unfoldable pub mapCauses : Device → List ℕ → List ℕ → List Rule
+mapCauses dev store map = 8 when badMap map (dev .alternates) (blockCount dev store) ∷ []
+
+unfoldable pub callCauses : Device → List ℕ → List ℕ → List ℕ → List ℕ → List ℕ → List Rule
+callCauses dev chain main store map answers = lentCauses dev chain main store answers ++ mapCauses dev store map
+
 unfoldable pub hostCauses : Device → List ℕ → List ℕ → List ℕ → List ℕ → List ℕ → List Rule
-hostCauses dev chain main store unit answers = callCauses dev chain main store answers ++ (6 when not (length unit =? recordSize) ∷ [])
+hostCauses dev chain main store unit answers =
+    lentCauses dev chain main store answers ++ (6 when not (length unit =? recordSize) ∷ mapCauses dev store (mapOf unit))
 
 -- the channel: 10 to 13 are program checks, and the unit does not see the command
 
@@ -167,12 +178,16 @@ defineExtentCauses dev blocks c s p =
 abbrev pub inhibits : ℕ → ℕ → Bool
 inhibits switch operation = not (switch =? 0) && (writes operation || operation =? format)
 
-unfoldable pub permissionCauses : State → Located → ℕ → List Rule
-permissionCauses s l n =
+-- a format, and "none is unused"
+abbrev pub noneToTake : Device → List ℕ → ℕ → Bool
+noneToTake dev map operation = operation =? format && not (unusedIn map (dev .alternates) <? dev .alternates)
+
+unfoldable pub permissionCauses : Device → State → Located → ℕ → List Rule
+permissionCauses dev s l n =
     36 when outside (s .extent) (l .displacement) n
     ∷ 37 when forbids (s .extent .mask) (l .operation)
     ∷ 38 when inhibits (s .unit .«read_only») (l .operation)
-    ∷ 39 when (l .operation =? format)
+    ∷ 39 when noneToTake dev (s .map) (l .operation)
     ∷ []
 
 -- 002, 2.1.4, ignores modifier bit 3 where there is no untagged DEVICE END
@@ -188,22 +203,22 @@ abbrev pub badReplication : Located → ℕ → Bool
 badReplication l replication = l .operation =? read-replicated && (replication <? l .blocks || not (replication % l .blocks =? 0))
 
 -- by the byte of its modifiers, what it locates, and its replication count
-abbrev pub locationRules : State → ℕ → Located → ℕ → List Rule
-locationRules s modifiers l replication =
+abbrev pub locationRules : Device → State → ℕ → Located → ℕ → List Rule
+locationRules dev s modifiers l replication =
     32 when badModifiers modifiers
     ∷ 33 when not (oneOf operations (l .operation))
     ∷ 34 when badCount l
     ∷ 35 when badReplication l replication
-    ∷ permissionCauses s l (processed l replication)
+    ∷ permissionCauses dev s l (processed l replication)
 
-unfoldable pub locationCauses : State → List ℕ → List Rule
-locationCauses s p = locationRules s (modifiersIn p) (locatedIn p) (replicationIn p)
+unfoldable pub locationCauses : Device → State → List ℕ → List Rule
+locationCauses dev s p = locationRules dev s (modifiersIn p) (locatedIn p) (replicationIn p)
 
-unfoldable pub locateCauses : Command → State → List ℕ → List Rule
-locateCauses c s p =
+unfoldable pub locateCauses : Device → Command → State → List ℕ → List Rule
+locateCauses dev c s p =
     30 when not (s .defined)
     ∷ 31 when (total c <? locateLength)
-    ∷ locationCauses s p
+    ∷ locationCauses dev s p
 
 -- the command directly before
 
@@ -236,7 +251,7 @@ transferCauses follows s = transferRules (s .before) (follows (s .located .opera
 unfoldable pub ownCauses : Device → Command → State → List ℕ → List ℕ → List Rule
 ownCauses dev c s main store =
     pick (c .command =? DEFINE-EXTENT) (defineExtentCauses dev (blockCount dev store) c s (fetched c main extentLength))
-    (pick (c .command =? LOCATE) (locateCauses c s (fetched c main locateLength))
+    (pick (c .command =? LOCATE) (locateCauses dev c s (fetched c main locateLength))
     (pick (c .command =? READ-IPL) (readIplCauses s)
     (pick (c .command =? READ) (transferCauses reads s)
     (pick (c .command =? WRITE) (transferCauses writes s) []))))

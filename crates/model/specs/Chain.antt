@@ -3,8 +3,8 @@
 --     next     the system after command i;  more   whether the chain goes on after it
 --     run      the chain from command i on, n commands at most
 --     start    the state at a chain's beginning
---     callOf   01, What is lent and Causes: refused as a whole by 1 to 5, or the chain run, on a device; Called   what it gives
---     classA   the device of every call of ours;  call   the call on it
+--     callOf   01, What is lent and Causes: refused as a whole by 1 to 5 or 8, or the chain run, on a device; Called   what it gives
+--     classA   the device of every call of ours, by its alternates;  call   the call on it
 -- Assumes nothing.
 use Prim.Native.Nat.{ℕ, zero, suc, _+_, _*_}
 use mathlib.Core.Bool.{Bool, false}
@@ -52,9 +52,10 @@ module _ (dev : Device) (chain : List ℕ) where
   run (suc n) i y = pick (more i y) (run n (i + 1) (next i y)) (next i y)
 
 -- no extent and no command before: "Keeping an extent from one chain to the next" is an error
-unfoldable pub start : Record → State
-start u = record {
+unfoldable pub start : Record → List ℕ → State
+start u map = record {
   unit = u;
+  map = map;
   defined = false;
   extent = record { mask = 0; offset = record { 0 = 0 }; first = record { 0 = 0 }; last = record { 0 = 0 } };
   before = Nothing;
@@ -66,23 +67,24 @@ pub record Called : Type 0 where
   pub cause : ℕ
   pub reached : ℕ
   pub unit : Record
+  pub map : List ℕ
   pub main : List ℕ
   pub store : List ℕ
   pub answers : List ℕ
 
 abbrev pub called : ℕ → System → Called
-called cause y = record { cause = cause; reached = y .reached; unit = y .state .unit; main = y .main; store = y .store; answers = y .answers }
+called cause y = record { cause = cause; reached = y .reached; unit = y .state .unit; map = y .state .map; main = y .main; store = y .store; answers = y .answers }
 
--- "Causes 1 to 6 come before any command and write nothing at all"
-unfoldable pub callOf : Device → List ℕ → List ℕ → List ℕ → Record → List ℕ → Called
-callOf dev chain main store u answers =
-    let cause = firstOf (callCauses dev chain main store answers) in
-    let y = system (start u) main store answers 0 in
+-- "Causes 1 to 6 come before any command and write nothing at all", and so does 8
+unfoldable pub callOf : Device → List ℕ → List ℕ → List ℕ → Record → List ℕ → List ℕ → Called
+callOf dev chain main store u map answers =
+    let cause = firstOf (callCauses dev chain main store map answers) in
+    let y = system (start u map) main store answers 0 in
     called cause (pick (cause =? 0) (run dev chain (length (commandsIn chain)) 0 y) y)
 
 -- Class A: blocks of 512 bytes
-abbrev pub classA : Device
-classA = record { block = 512 }
+abbrev pub classA : ℕ → Device
+classA alternates = record { block = 512; alternates = alternates }
 
-abbrev pub call : List ℕ → List ℕ → List ℕ → Record → List ℕ → Called
-call = callOf classA
+abbrev pub call : ℕ → List ℕ → List ℕ → List ℕ → Record → List ℕ → List ℕ → Called
+call alternates = callOf (classA alternates)

@@ -93,5 +93,5 @@ runClassOf dev chains main store unit results =
     (record { result = resultOf 7 0; left = record { main = main; store = store; unit = unit; results = results } })
     (record { result = resultOf 0 0; left = markEachOf dev (Option·getD (chainsIn chains) []) main store unit results })
 
-abbrev pub runClass : List ℕ → List ℕ → List ℕ → List ℕ → List ℕ → ClassRun
-runClass = runClassOf classA
+abbrev pub runClass : ℕ → List ℕ → List ℕ → List ℕ → List ℕ → List ℕ → ClassRun
+runClass alternates = runClassOf (classA alternates)

@@ -3,6 +3,7 @@
 --     leaves     what a command leaves of the state, by the kind of its cause
 --     ending     how a command ends, accepted or refused: the numbers of its answer, and what it leaves
 --     begun      the blocks that so many bytes begin
+--     mapAfter   the map that a LOCATE leaves: another one after a format
 --     noOperation, defineExtent, locate, read, write, readIpl, sense, senseType, readLog
 --                an accepted command; defineDone and the like are its ending, beside the bytes that it moves
 --     refused    a command that was given a cause, and with it this sense (senseGiven)
@@ -27,8 +28,9 @@ use Rattle.model.specs.declared.record.Record.{Record}
 use Rattle.model.specs.declared.state.Before.{Before}
 use Rattle.model.specs.declared.state.Before.the-variants.{ReadIpl, Locate, Other}
 use Rattle.model.specs.State.{State, Done}
-use Rattle.model.specs.Names.{NO-OPERATION, DEFINE-EXTENT, LOCATE, READ, WRITE, READ-IPL, SENSE, SENSE-TYPE, write-check, senseSize}
+use Rattle.model.specs.Names.{NO-OPERATION, DEFINE-EXTENT, LOCATE, READ, WRITE, READ-IPL, SENSE, SENSE-TYPE, format, write-check, senseSize}
 use Rattle.model.specs.Rules.{firstOf}
+use Rattle.model.specs.Alternates.{formatted}
 use Rattle.model.specs.Lent.{blockCount, blocksFrom, blocksInto}
 use Rattle.model.specs.Pieces.{Command, total, fetched, delivered}
 use Rattle.model.specs.Parameters.{extentLength, extentIn, locateLength, locatedIn, address}
@@ -46,13 +48,13 @@ out d main store = record { done = d; main = main; store = store }
 
 -- the state after a command: the unit record as it left it, and what the next command has before it
 unfoldable pub after : State → Record → Before → State
-after s u before = record { unit = u; defined = s .defined; extent = s .extent; before = before; located = s .located }
+after s u before = record { unit = u; map = s .map; defined = s .defined; extent = s .extent; before = before; located = s .located }
 
 unfoldable pub extentSet : State → Record → Extent → Before → State
-extentSet s u e before = record { unit = u; defined = true; extent = e; before = before; located = s .located }
+extentSet s u e before = record { unit = u; map = s .map; defined = true; extent = e; before = before; located = s .located }
 
-unfoldable pub locateSet : State → Record → Located → State
-locateSet s u l = record { unit = u; defined = s .defined; extent = s .extent; before = Locate; located = l }
+unfoldable pub locateSet : State → Record → List ℕ → Located → State
+locateSet s u map l = record { unit = u; map = map; defined = s .defined; extent = s .extent; before = Locate; located = l }
 
 -- how a command ends: a program check leaves the record as it is, a unit check gives it new sense
 
@@ -79,12 +81,20 @@ defineDone s p = ended (extentSet s (s .unit) (extentIn p) Other) extentLength e
 unfoldable pub defineExtent : Command → State → List ℕ → List ℕ → Out
 defineExtent c s main store = out (defineDone s (fetched c main extentLength)) main store
 
--- "A later LOCATE replaces an earlier one. It counts one access movement."
-unfoldable pub locateDone : State → List ℕ → Done
-locateDone s p = ended (locateSet s (movementCounted (s .unit)) (locatedIn p)) locateLength locateLength 0
+-- 002, 2.1.4: the first block that a LOCATE accesses
+abbrev pub firstBlock : Extent → Located → ℕ
+firstBlock e l = address e (l .displacement)
 
-unfoldable pub locate : Command → State → List ℕ → List ℕ → Out
-locate c s main store = out (locateDone s (fetched c main locateLength)) main store
+-- 02, ask 4: a format "moves no data"; it leaves another map
+unfoldable pub mapAfter : Device → List ℕ → Extent → Located → List ℕ
+mapAfter dev map e l = pick (l .operation =? format) (formatted map (dev .alternates) (firstBlock e l)) map
+
+-- "A later LOCATE replaces an earlier one. It counts one access movement."
+unfoldable pub locateDone : Device → State → List ℕ → Done
+locateDone dev s p = ended (locateSet s (movementCounted (s .unit)) (mapAfter dev (s .map) (s .extent) (locatedIn p)) (locatedIn p)) locateLength locateLength 0
+
+unfoldable pub locate : Device → Command → State → List ℕ → List ℕ → Out
+locate dev c s main store = out (locateDone dev s (fetched c main locateLength)) main store
 
 -- a command that can move so many of these bytes into its data area, and leaves that unit record
 unfoldable pub sent : Command → State → List ℕ → List ℕ → ℕ → List ℕ → Record → Out
@@ -103,10 +113,6 @@ unfoldable pub readLog : Command → State → List ℕ → List ℕ → Out
 readLog c s main store = sent c s main store senseSize (logOf (s .unit)) (logReset (s .unit))
 
 -- the commands that move blocks: of `can` bytes that they can move, n
-
--- 002, 2.1.4: the first block that a LOCATE accesses
-abbrev pub firstBlock : Extent → Located → ℕ
-firstBlock e l = address e (l .displacement)
 
 -- the extent that READ IPL sets: "offset 0, first 0, last the final block, mask 00"
 unfoldable pub wholeDevice : ℕ → Extent
@@ -129,7 +135,7 @@ module _ (dev : Device) where
   read c s main store =
       let l = s .located in
       let n = min (total c) (canMove l) in
-      let bytes = blocksFrom dev store (firstBlock (s .extent) l) (l .blocks) in
+      let bytes = blocksFrom dev (s .map) store (firstBlock (s .extent) l) (l .blocks) in
       out (readDone s n (canMove l)) (delivered c main (take n bytes)) store
 
   -- after operation 5 all blocks of the LOCATE are written with check (002, 5.8.1)
@@ -144,7 +150,7 @@ module _ (dev : Device) where
   write c s main store =
       let l = s .located in
       let n = min (total c) (canMove l) in
-      out (writeDone s n (canMove l)) main (blocksInto dev store (firstBlock (s .extent) l) (l .blocks) (fetched c main n))
+      out (writeDone s n (canMove l)) main (blocksInto dev (s .map) store (firstBlock (s .extent) l) (l .blocks) (fetched c main n))
 
   -- READ IPL "counts one block read and one access movement, and sets an extent over the whole device"
   unfoldable pub iplDone : State → ℕ → ℕ → Done
@@ -154,13 +160,13 @@ module _ (dev : Device) where
   unfoldable pub readIpl : Command → State → List ℕ → List ℕ → Out
   readIpl c s main store =
       let n = min (total c) (dev .block) in
-      out (iplDone s n (blockCount dev store)) (delivered c main (take n (blocksFrom dev store 0 1))) store
+      out (iplDone s n (blockCount dev store)) (delivered c main (take n (blocksFrom dev (s .map) store 0 1))) store
 
   unfoldable pub accepted : Command → State → List ℕ → List ℕ → Out
   accepted c s main store =
       pick (c .command =? NO-OPERATION) (noOperation s main store)
       (pick (c .command =? DEFINE-EXTENT) (defineExtent c s main store)
-      (pick (c .command =? LOCATE) (locate c s main store)
+      (pick (c .command =? LOCATE) (locate dev c s main store)
       (pick (c .command =? READ) (read c s main store)
       (pick (c .command =? WRITE) (write c s main store)
       (pick (c .command =? READ-IPL) (readIpl c s main store)

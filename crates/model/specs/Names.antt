@@ -6,6 +6,7 @@
 --     operations          01, LOCATE; 002, 2.1.4
 --     sense, its places   01, What is lent; 002, 5.1 and 5.2
 --     places in the log   01, READ AND RESET BUFFERED LOG; 002, 5.8.1
+--     entries of the map  02, ask 4
 -- Assumes nothing.
 use Prim.Native.Nat.{ℕ}
 
@@ -120,3 +121,11 @@ blocks-written-at = 15
 
 abbrev pub movements-at : ℕ
 movements-at = 19
+
+-- entries of the map that name no block
+
+abbrev pub UNUSED : ℕ
+UNUSED = 0
+
+abbrev pub DEFECTIVE : ℕ
+DEFECTIVE = 0xFFFFFFFF

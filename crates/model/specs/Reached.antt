@@ -58,6 +58,7 @@ pub record RefusedThere (c : Command) (f : System) (w : ℕ) (r : Called) : Type
   pub last : r .reached ≡ f .reached + (readBefore c w .filled + 1)
   pub main : r .main ≡ f .main
   pub store : r .store ≡ f .store
+  pub map : r .map ≡ f .state .map
   pub unit : r .unit ≡ leaves (kindOf w) (f .state) (senseGiven w c (f .main)) .unit
   pub answers : r .answers ≡ put (f .answers) (f .reached * answerSize) (refusedAnswers c w)
 

@@ -1,5 +1,7 @@
 -- What functions hand on from one to the other: a device, a chain that ends, a data area, and a state that stays on the device. No way in asks for it.
 --     Usable     a device that a chain may run on: a block has 1 to 65,535 bytes
+--     HasMap     no more alternates than a map has entries, and a whole map
+--     Mounted    such a device with its store and its map: a primary at least, no more alternates and blocks than may be
 --     Closes     from a CCW on there is one that no other follows: the chain ends in what is lent of it
 --     PieceFits  the numbers of a piece are no larger than their bytes hold
 --     Inside     each piece is in main storage
@@ -19,7 +21,8 @@ use Rattle.model.specs.declared.device.Device.{Device}
 use Rattle.model.specs.declared.extent.Extent.{Extent}
 use Rattle.model.specs.declared.extent.Located.{Located}
 use Rattle.model.specs.State.{State}
-use Rattle.model.specs.Lent.{ccwSize, pieceAt}
+use Rattle.model.specs.Alternates.{mapEntries, mapSize}
+use Rattle.model.specs.Lent.{ccwSize, pieceAt, storeBlocks, blockCount}
 use Rattle.model.specs.Parameters.{address}
 use Rattle.model.specs.Pieces.{counts}
 use Rattle.model.specs.Decoded.{areaOf, Stands}
@@ -28,6 +31,17 @@ use Rattle.model.specs.Causes.{followed, a-locate}
 pub record Usable (dev : Device) : Type 0 where
   pub some-size : 1 ≤ dev .block
   pub small-size : dev .block ≤ 65535
+
+pub record HasMap (dev : Device) (map : List ℕ) : Type 0 where
+  pub few-alternates : dev .alternates ≤ mapEntries
+  pub whole-map : length map ≡ mapSize
+
+pub record Mounted (dev : Device) (store map : List ℕ) : Type 0 where
+  pub device : Usable dev
+  pub some-block : 1 ≤ blockCount dev store
+  pub few-blocks : storeBlocks dev store ≤ 131072
+  pub few-alternates : dev .alternates ≤ mapEntries
+  pub whole-map : length map ≡ mapSize
 
 pub record Closes (chain : List ℕ) (i : ℕ) : Type 0 where
   pub last : ℕ

@@ -1,4 +1,5 @@
-// The unit record: what the unit keeps from one chain to the next.
+// The unit record: what the unit keeps from one chain to the next. Its map, which is most of its bytes, is apart: while a chain runs
+// it stays where it is lent.
 use crate::sizes;
 
 pub struct Record {
@@ -10,7 +11,13 @@ pub struct Record {
     pub read_only: u8,
 }
 
-// Its counts.
+// The unit record as callers hold it: all but the map, and the map of its alternates.
+pub struct UnitRecord {
+    pub unit: Record,
+    pub map: [u8; sizes::MAP],
+}
+
+// The counts of a record.
 pub struct Counts {
     pub blocks_read: [u8; 3],
     pub blocks_written: [u8; 3],

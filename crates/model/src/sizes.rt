@@ -3,7 +3,17 @@ pub const CCW: usize = 8;
 
 pub const ANSWER: usize = 8;
 
+// The unit record: all but its map, the map, and both.
 pub const RECORD: usize = 34;
+
+pub const MAP: usize = 256;
+
+pub const UNIT_RECORD: usize = 290;
+
+// The map's entries, and the bytes of each.
+pub const ENTRIES: usize = 64;
+
+pub const ENTRY: usize = 4;
 
 // The parameters of DEFINE EXTENT and of LOCATE.
 pub const EXTENT: usize = 16;

@@ -4,3 +4,4 @@ pub mod Bytes
 pub mod Big
 pub mod Tables
 pub mod Bits
+pub mod Lowest

@@ -25,13 +25,13 @@ use Rattle.model.specs.State.{State}
 use Rattle.model.specs.Causes.{kindOf}
 use Rattle.model.specs.Log.{withSense, withCounts}
 use Rattle.model.specs.Commands.{after, leaves}
-use Rattle.model.specs.Lent.{recordBytes, recordOf}
+use Rattle.model.specs.Lent.{unitBytes, recordOf}
 use Rattle.model.proofs.kind.Kind.{the-type}
 use Rattle.model.proofs.Leaving.{leaves-ind}
 use Rattle.log.specs.Counts.{counted}
 use Rattle.sense_table.specs.Sensed.{senseBytes}
 use Rattle.unit_state.specs.declared.Left.{Left}
-use Rattle.unit_state.specs.Standing.{senseNow, unitOf, stateOf, stateLeft}
+use Rattle.unit_state.specs.Standing.{holding, senseNow, unitOf, stateOf, unitLeft}
 
 -- more bytes are put behind the n that were put
 put-behind : (d : List ℕ) (at n : ℕ) (bytes more : List ℕ) → length bytes ≡ n → at ≤ length d → put (put d at bytes) (at + n) more ≡ put d at (bytes ++ more)
@@ -39,8 +39,8 @@ put-behind d at n bytes more e h = rw e at (put-more d at bytes more h)
 
 pub counts-stored : (r w m d d₁ d₂ d₃ : List ℕ) → length r ≡ 3 → length w ≡ 3 → length m ≡ 2 → length d ≡ 34
     → d₁ ≡ put d 24 (take 3 r) → d₂ ≡ put d₁ 27 (take 3 w) → d₃ ≡ put d₂ 30 (take 2 m)
-    → d₃ ≡ recordBytes (withCounts (recordOf d) r w m)
-unfolding recordBytes recordOf withCounts part put
+    → d₃ ≡ unitBytes (withCounts (recordOf d) r w m)
+unfolding unitBytes recordOf withCounts part put
 counts-stored r w m d d₁ d₂ d₃ r-long w-long m-long n e₁ e₂ e₃ =
     let six : length (r ++ w) ≡ 6 = rw (length-append, r-long, w-long) in
     let eight : length (r ++ w ++ m) ≡ 8 = rw (length-append, six, m-long) in
@@ -61,7 +61,7 @@ sense-put d sense n m =
 
 pub record-stored : (u : Record) (d d₁ : List ℕ) → length d ≡ 34 → length (u .sense) ≡ 24
     → d₁ ≡ put (set (set d 32 (u .ready)) 33 (u .«read_only»)) 0 (take 24 (u .sense))
-    → recordBytes (withCounts (recordOf d₁) (u .«blocks_read») (u .«blocks_written») (u .movements)) ≡ recordBytes u
+    → unitBytes (withCounts (recordOf d₁) (u .«blocks_read») (u .«blocks_written») (u .movements)) ≡ unitBytes u
 unfolding withCounts withSense recordOf
 record-stored u d d₁ n m e =
     let b : List ℕ = set d 32 (u .ready) in
@@ -69,33 +69,33 @@ record-stored u d d₁ n m e =
     let f : d₁ ≡ put (set b 33 (u .«read_only»)) 0 (u .sense) = rw (e, take-all 24 (u .sense) (le-of-eq m)) refl in
     let ready : getD (set b 33 (u .«read_only»)) 32 0 ≡ u .ready = getD-set-other b 33 32 _ 0 (λ h. omega (arith, h)) ∙ getD-set-same d 32 _ 0 (omega arith) in
     let read-only : getD (set b 33 (u .«read_only»)) 33 0 ≡ u .«read_only» = getD-set-same b 33 _ 0 (omega arith) in
-    ap (λ (v : Record). recordBytes (withCounts v (u .«blocks_read») (u .«blocks_written») (u .movements)))
+    ap (λ (v : Record). unitBytes (withCounts v (u .«blocks_read») (u .«blocks_written») (u .movements)))
     (ap recordOf f ∙ sense-put (set b 33 (u .«read_only»)) (u .sense) (length-set b 33 _ ∙ long) m)
     ∙ rw (ready, read-only) refl
 
-pub sense-made : (k : Kind) (u : Record) (l : Left) → k ≡ kindOf (l .cause) → k ≡ UnitCheck → stateLeft u l .unit .sense ≡ senseBytes (l .sense)
+pub sense-made : (k : Kind) (u : Record) (l : Left) → k ≡ kindOf (l .cause) → k ≡ UnitCheck → unitLeft u l .sense ≡ senseBytes (l .sense)
 unfolding after withSense
-sense-made k u l e f = rw (← e, f) refl
+sense-made k u l e f = ap (λ (q : Kind). leaves q (stateOf (holding u []) (l .state)) (senseBytes (l .sense)) .unit .sense) (sym e ∙ f)
 
 -- 0 and 1 are the keys of the kinds that are no unit check
-pub sense-is : (k : Kind) (u : Record) (l : Left) → k ≡ kindOf (l .cause) → OneOf (0 ∷ 1 ∷ []) (tagOf the-type k) → stateLeft u l .unit .sense ≡ senseNow (u .sense) (l .state .kept)
+pub sense-is : (k : Kind) (u : Record) (l : Left) → k ≡ kindOf (l .cause) → OneOf (0 ∷ 1 ∷ []) (tagOf the-type k) → unitLeft u l .sense ≡ senseNow (u .sense) (l .state .kept)
 unfolding after stateOf unitOf counted withCounts withSense
-sense-is k u l e h = rw (← e) (go k h)
+sense-is k u l e h = ap (λ (q : Kind). leaves q (stateOf (holding u []) (l .state)) (senseBytes (l .sense)) .unit .sense) (sym e) ∙ go k h
   where
-    go : (k : Kind) → OneOf (0 ∷ 1 ∷ []) (tagOf the-type k) → leaves k (stateOf u (l .state)) (senseBytes (l .sense)) .unit .sense ≡ senseNow (u .sense) (l .state .kept)
+    go : (k : Kind) → OneOf (0 ∷ 1 ∷ []) (tagOf the-type k) → leaves k (stateOf (holding u []) (l .state)) (senseBytes (l .sense)) .unit .sense ≡ senseNow (u .sense) (l .state .kept)
     go Accepted h = refl
     go ProgramCheck h = refl
     go UnitCheck h = absurd (miss (0 ∷ 1 ∷ []) 2 tt h)
 
-pub unit-left : (u : Record) (l : Left) → stateLeft u l .unit ≡ counted (withSense u (stateLeft u l .unit .sense)) (l .state .counts)
+pub unit-left : (u : Record) (l : Left) → unitLeft u l ≡ counted (withSense u (unitLeft u l .sense)) (l .state .counts)
 unfolding stateOf unitOf counted withCounts withSense after
 unit-left u l =
-    leaves-ind (λ (s : State). s .unit ≡ counted (withSense u (s .unit .sense)) (l .state .counts)) (kindOf (l .cause)) (stateOf u (l .state)) (senseBytes (l .sense)) refl refl refl
+    leaves-ind (λ (s : State). s .unit ≡ counted (withSense u (s .unit .sense)) (l .state .counts)) (kindOf (l .cause)) (stateOf (holding u []) (l .state)) (senseBytes (l .sense)) refl refl refl
 
 -- `sense` is what the first 24 bytes came back as
-pub left-stored : (l : Left) (d sense : List ℕ) → length d ≡ 34 → length sense ≡ 24 → sense ≡ stateLeft (recordOf d) l .unit .sense
-    → (let k = l .state .counts in recordBytes (withCounts (recordOf (sense ++ drop 24 d)) (k .«blocks_read») (k .«blocks_written») (k .movements))) ≡ recordBytes (stateLeft (recordOf d) l .unit)
+pub left-stored : (l : Left) (d sense : List ℕ) → length d ≡ 34 → length sense ≡ 24 → sense ≡ unitLeft (recordOf d) l .sense
+    → (let k = l .state .counts in unitBytes (withCounts (recordOf (sense ++ drop 24 d)) (k .«blocks_read») (k .«blocks_written») (k .movements))) ≡ unitBytes (unitLeft (recordOf d) l)
 unfolding put counted
 left-stored l d sense n m e =
     let is : sense ++ drop 24 d ≡ put d 0 sense = rw (zero-add, m) refl in
-    ap recordBytes (ap (λ (v : Record). counted v (l .state .counts)) (ap recordOf is ∙ sense-put d sense n m ∙ ap (withSense (recordOf d)) e) ∙ sym (unit-left (recordOf d) l))
+    ap unitBytes (ap (λ (v : Record). counted v (l .state .counts)) (ap recordOf is ∙ sense-put d sense n m ∙ ap (withSense (recordOf d)) e) ∙ sym (unit-left (recordOf d) l))

@@ -1,6 +1,6 @@
-// The unit record and its 34 bytes: any 34 bytes are a record (`unpack`, `pack`), and what a chain leaves goes to those that it found
-// (`pack_left`) or makes another record (`record_left`). `new_record` is that of a new unit; `same_sense` and `same_count` compare. Nothing
-// is refused.
+// The unit record, all but its map, and its 34 bytes, which stand before the map's: any 34 bytes are a record (`unpack`, `pack`), and what
+// a chain leaves goes to those that it found (`pack_left`) or makes another record (`record_left`). `new_record` is that of a new unit;
+// `same_sense` and `same_count` compare. Nothing is refused.
 use model::kind::Kind;
 use model::record::Record;
 use model::sizes;
@@ -13,10 +13,10 @@ ghost use mathlib.Core.Bool.{true};
 ghost use Prim.Native.Nat.{_+_, _≤_};
 ghost use lib.ListN.{length};
 ghost use Rattle.slices.specs.Parts.{part};
-ghost use Rattle.model.specs.Lent.{recordSize, recordBytes, recordOf, newRecord};
+ghost use Rattle.model.specs.Lent.{mapPlace, unitBytes, recordOf, newRecord};
 ghost use Rattle.model.specs.Log.{withCounts};
 ghost use Rattle.model.specs.Names.{senseSize};
-ghost use Rattle.unit_state.specs.Standing.{stateLeft};
+ghost use Rattle.unit_state.specs.Standing.{unitLeft};
 
 // Where each field stands in the bytes; sense is first, up to the first count.
 const BLOCKS_READ: usize = sizes::SENSE;
@@ -45,9 +45,9 @@ fn three(s: &[u8], at: usize) -> [u8; 3]
     [s[at], s[at + 1], s[at + 2]]
 }
 
-// The record that 34 bytes hold.
+// The record that these bytes begin with.
 pub fn unpack(s: &[u8]) -> Record
-    requires { ⌜ length (now s) ≡ recordSize ⌝ }
+    requires { ⌜ mapPlace ≤ length (now s) ⌝ }
     ensures { λ r. ⌜ r ≡ recordOf (now (s .entry)) ⌝ }
 {
     let mut sense = [0u8; sizes::SENSE];
@@ -64,8 +64,8 @@ pub fn unpack(s: &[u8]) -> Record
 
 // The counts of the record in the 34 bytes of `to` become these.
 fn put_counts(read: [u8; 3], written: [u8; 3], movements: [u8; 2], to: &mut [u8])
-    requires { ⌜ length (now to) ≡ recordSize ⌝ }
-    ensures { λ _. ⌜ now (to .exit) ≡ recordBytes (withCounts (recordOf (now (to .entry))) read written movements) ⌝ }
+    requires { ⌜ length (now to) ≡ mapPlace ⌝ }
+    ensures { λ _. ⌜ now (to .exit) ≡ unitBytes (withCounts (recordOf (now (to .entry))) read written movements) ⌝ }
 {
     put_at(to, BLOCKS_READ, &read, 3);
     put_at(to, BLOCKS_WRITTEN, &written, 3);
@@ -74,8 +74,8 @@ fn put_counts(read: [u8; 3], written: [u8; 3], movements: [u8; 2], to: &mut [u8]
 
 // The record goes to the 34 bytes of `to`.
 pub fn pack(u: Record, to: &mut [u8])
-    requires { ⌜ length (now to) ≡ recordSize ⌝ }
-    ensures { λ _. ⌜ now (to .exit) ≡ recordBytes u ⌝ }
+    requires { ⌜ length (now to) ≡ mapPlace ⌝ }
+    ensures { λ _. ⌜ now (to .exit) ≡ unitBytes u ⌝ }
 {
     let sense = u.sense;
     let read = u.blocks_read;
@@ -90,7 +90,7 @@ pub fn pack(u: Record, to: &mut [u8])
 // The sense that is left goes to the 24 bytes of the sense that was found, where it is another.
 fn put_sense(l: Left, to: &mut [u8])
     requires { ⌜ length (now to) ≡ senseSize ⌝ }
-    ensures { λ _. ⌜ ((u : Record) → u .sense ≡ now (to .entry) → now (to .exit) ≡ stateLeft u l .unit .sense) ⌝ }
+    ensures { λ _. ⌜ ((u : Record) → u .sense ≡ now (to .entry) → now (to .exit) ≡ unitLeft u l .sense) ⌝ }
 {
     let left = l.sense;
     match Kind::of(l.cause) {
@@ -108,8 +108,8 @@ fn put_sense(l: Left, to: &mut [u8])
 
 // What a chain leaves goes to the 34 bytes of the record that it found. Only what can have changed is written.
 pub fn pack_left(l: Left, to: &mut [u8])
-    requires { ⌜ length (now to) ≡ recordSize ⌝ }
-    ensures { λ _. ⌜ now (to .exit) ≡ recordBytes (stateLeft (recordOf (now (to .entry))) l .unit) ⌝ }
+    requires { ⌜ length (now to) ≡ mapPlace ⌝ }
+    ensures { λ _. ⌜ now (to .exit) ≡ unitBytes (unitLeft (recordOf (now (to .entry))) l) ⌝ }
 {
     let counts = l.state.counts;
     let read = counts.blocks_read;
@@ -121,7 +121,7 @@ pub fn pack_left(l: Left, to: &mut [u8])
 
 // The record that is left, in a chain that found this one.
 pub fn record_left(u: Record, l: Left) -> Record
-    ensures { λ r. ⌜ r ≡ stateLeft u l .unit ⌝ }
+    ensures { λ r. ⌜ r ≡ unitLeft u l ⌝ }
 {
     let k = l.state.counts;
     let read = k.blocks_read;

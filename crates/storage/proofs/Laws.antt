@@ -1,6 +1,7 @@
 -- Laws of a data area's pieces. No contract cites this file.
 --     gathered-here, scattered-here   no more bytes than the first piece has
 --     gathered-next, scattered-next   more than that: the first piece, and the bytes behind it
+--     scattered-none                  no byte
 --     inside-of                       pieces that are the same lie where these lie
 --     length-taken                    as many bytes as are asked for
 --     fetched-array                   what an array of zeros holds that n bytes were fetched into
@@ -19,7 +20,7 @@ use Rattle.model.proofs.Pieces.{length-gathered}
 
 -- the first piece, and those behind it
 
-scattered-none : (ps : List Piece) (main : List ℕ) → scattered ps main [] ≡ main
+pub scattered-none : (ps : List Piece) (main : List ℕ) → scattered ps main [] ≡ main
 unfolding scattered
 scattered-none [] main = refl
 scattered-none (p ∷ ps) main = rw (take-nil (p .count), drop-nil (p .count), put-nil main (p .address)) (scattered-none ps main)

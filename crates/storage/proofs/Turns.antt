@@ -3,6 +3,8 @@
 --     left-first   before the first piece
 --     left-more    another piece is there
 --     left-next    behind a piece
+--     more-pieces, behind-first
+--                  the same of any number of bytes: another piece is there, and those behind the first have the others
 --     gathered-turn, gathered-end, scattered-turn, scattered-end
 --                  the bytes of a piece, and of the last
 use Prim.Native.Nat.{ℕ, _+_, _-_, _≤_, _<_}
@@ -32,7 +34,7 @@ pub left-first : (chain : List ℕ) (a : Area) (n : ℕ) (main : List ℕ) → I
 left-first chain a n main h = record { some = omega arith; there = rw sub-zero h }
 
 -- where more bytes are left than the first piece has, another is behind it
-more-pieces : (chain : List ℕ) (a : Area) (n : ℕ) → n ≤ counts (areaOf chain a) → a .piece .count < n → a .next < a .end
+pub more-pieces : (chain : List ℕ) (a : Area) (n : ℕ) → n ≤ counts (areaOf chain a) → a .piece .count < n → a .next < a .end
 unfolding counts piecesFrom
 more-pieces chain a n h l = elim (decLe (a .end) (a .next)) [
   | yes g ↦
@@ -41,7 +43,7 @@ more-pieces chain a n h l = elim (decLe (a .end) (a .next)) [
   | no g ↦ omega (arith, g)
 ]
 
-behind-first : (p : Piece) (ps qs : List Piece) (n : ℕ) → qs ≡ ps → n ≤ counts (p ∷ ps) → n - p .count ≤ counts qs
+pub behind-first : (p : Piece) (ps qs : List Piece) (n : ℕ) → qs ≡ ps → n ≤ counts (p ∷ ps) → n - p .count ≤ counts qs
 unfolding counts
 behind-first p ps qs n e h = rw e (omega (arith, h))
 

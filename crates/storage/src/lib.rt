@@ -1,15 +1,17 @@
 // A command's data area in main storage: `fetch` reads from its front, `deliver` writes to its front, and no command does either by
-// itself. Nothing here is refused: the channel saw to it that the area is there.
+// itself; `skip` tells what is left of it. Nothing here is refused: the channel saw to it that the area is there.
 use channel::ccw::next_piece;
+use model::ccw::Piece;
 use model::decoded::Area;
 use slices::put_at;
 ghost use mathlib.Core.Path.{_≡_};
-ghost use Prim.Native.Nat.{_≤_};
+ghost use Prim.Native.Nat.{_+_, _≤_, _<_};
 ghost use lib.ListN.{length, take};
 ghost use Rattle.slices.specs.Parts.{put};
-ghost use Rattle.model.specs.Pieces.{bytesIn, scattered};
-ghost use Rattle.model.specs.Decoded.{areaOf};
+ghost use Rattle.model.specs.Pieces.{counts, bytesIn, scattered};
+ghost use Rattle.model.specs.Decoded.{areaOf, Stands};
 ghost use Rattle.model.specs.Safe.{InArea};
+ghost use Rattle.storage.specs.Area.{Rest};
 
 // As `fetch`, of more bytes than the first piece has: piece by piece.
 fn gather(chain: &[u8], a: Area, main: &[u8], to: &mut [u8], n: usize)
@@ -70,4 +72,28 @@ pub fn deliver(chain: &[u8], a: Area, main: &mut [u8], bytes: &[u8], n: usize)
         return;
     }
     put_at(main, a.piece.address, bytes, n);
+}
+
+// What is left of an area behind its first n bytes. Where the first piece ends is asked to be a number that the machine holds.
+pub fn skip(chain: &[u8], a: Area, n: usize) -> Area
+    requires { ⌜ Stands (now chain) a × (n ≤ counts (areaOf (now chain) a)) × (a .piece .address + a .piece .count < 18446744073709551616) ⌝ }
+    ensures { λ r. ⌜ Rest (now (chain .entry)) a n r ⌝ }
+{
+    let mut rest = a;
+    let mut left = n;
+    while rest.piece.count < left {
+        left -= rest.piece.count;
+        rest = next_piece(chain, rest);
+    }
+    let p = rest.piece;
+    let flags = p.flags;
+    Area {
+        piece: Piece {
+            address: p.address + left,
+            count: p.count - left,
+            flags: flags,
+        },
+        next: rest.next,
+        end: rest.end,
+    }
 }

@@ -1,6 +1,6 @@
 // A chain as text, and what happened as text: `exercise`. Any input gets its answer; one with a wrong line gets that line's number.
 use in_place::run_lending;
-use model::record::Record;
+use model::record::UnitRecord;
 use model::sizes;
 use record::new_record;
 use text_input::MOST_BLOCKS;
@@ -15,11 +15,11 @@ ghost use mathlib.Core.Path.{_≡_};
 ghost use Prim.Native.Nat.{_*_, _≤_};
 ghost use lib.ListN.{length};
 ghost use Rattle.slices.specs.Parts.{zeros};
-ghost use Rattle.model.specs.Chain.{call, classA};
+ghost use Rattle.model.specs.Chain.{callOf};
 ghost use Rattle.text_digits.specs.Output.{Adds};
 ghost use Rattle.text_output.specs.Printout.{printout};
 ghost use Rattle.text_input.specs.Input.{mostBlocks, mostStorage, mostChain, lines, wrongLine, exerciseIn};
-ghost use Rattle.text_exercise.specs.Exercise.{newStore, mostStore, exercised, exercise};
+ghost use Rattle.text_exercise.specs.Exercise.{device, newStore, mostStore, newUnit, exercised, exercise};
 
 // The bytes of the largest store.
 const MOST_STORE: usize = MOST_BLOCKS * sizes::BLOCK;
@@ -27,9 +27,12 @@ const MOST_STORE: usize = MOST_BLOCKS * sizes::BLOCK;
 // A run's code is this many times the call's cause, plus the commands reached.
 const PER_CAUSE: usize = 256;
 
+// The device's alternates.
+const ALTERNATES: u32 = 0;
+
 // Block i of the store is filled with byte i.
 fn number_blocks(store: &mut [u8], blocks: usize)
-    requires { ⌜ (length (now store) ≡ blocks * classA .block) × (blocks ≤ mostBlocks) ⌝ }
+    requires { ⌜ (length (now store) ≡ blocks * device .block) × (blocks ≤ mostBlocks) ⌝ }
     ensures { λ _. ⌜ now (store .exit) ≡ newStore blocks ⌝ }
 {
     for i in 0..store.len() {
@@ -40,18 +43,18 @@ fn number_blocks(store: &mut [u8], blocks: usize)
 // Runs the chain, and prints what happened.
 fn run(
     output: &mut [u8],
-    unit: Record,
+    unit: UnitRecord,
     chain: &[u8],
     main: &mut [u8],
     store: &mut [u8],
     answers: &mut [u8],
 ) -> usize
     requires { ⌜ length (now answers) ≡ length (now chain) ⌝ }
-    ensures { λ r. ⌜ Adds (now (output .entry)) 0 (printout (call (now (chain .entry)) (now (main .entry)) (now (store .entry)) unit (zeros (length (now (chain .entry)))))) r (now (output .exit)) ⌝ }
+    ensures { λ r. ⌜ Adds (now (output .entry)) 0 (printout (callOf device (now (chain .entry)) (now (main .entry)) (now (store .entry)) (unit .unit) (unit .map) (zeros (length (now (chain .entry)))))) r (now (output .exit)) ⌝ }
 {
     slices::clear(answers);
-    let ran = run_lending(unit, chain, main, store, answers);
-    let left = ran.unit;
+    let ran = run_lending(unit, chain, main, store, ALTERNATES, answers);
+    let left = ran.unit.unit;
     let sense = left.sense;
     let code = ran.code as usize;
     text_output::print(
@@ -62,6 +65,16 @@ fn run(
         main,
         &sense,
     )
+}
+
+// A new unit, as the settings have it.
+fn new_unit(s: Settings) -> UnitRecord
+    ensures { λ r. ⌜ r ≡ newUnit s ⌝ }
+{
+    UnitRecord {
+        unit: new_record(s.ready, s.readonly),
+        map: [0u8; sizes::MAP],
+    }
 }
 
 // The same on a new device, as the settings have it.
@@ -78,8 +91,14 @@ fn run_on_device(
 {
     let size = s.blocks * sizes::BLOCK;
     number_blocks(&mut store[..size], s.blocks);
-    let unit = new_record(s.ready, s.readonly);
-    run(output, unit, chain, main, &mut store[..size], answers)
+    run(
+        output,
+        new_unit(s),
+        chain,
+        main,
+        &mut store[..size],
+        answers,
+    )
 }
 
 // An input with no wrong line, in buffers that hold the most that one can ask for.

@@ -22,7 +22,7 @@ ghost use Rattle.model.specs.Names.{NO-OPERATION};
 ghost use Rattle.model.specs.Causes.{notReady};
 ghost use Rattle.model.specs.Commands.{step};
 ghost use Rattle.model.specs.Decoded.{commandOf, Decodes};
-ghost use Rattle.unit_state.specs.Standing.{stateOf, Sound, Handed};
+ghost use Rattle.unit_state.specs.Standing.{holding, stateOf, Sound, Handed};
 ghost use Rattle.endings.specs.Ending.{Ends};
 ghost use Rattle.unit.specs.Received.{Received};
 
@@ -48,17 +48,18 @@ fn perform(
     s: Running,
     main: &mut [u8],
     store: &mut [u8],
+    map: &mut [u8],
 ) -> Ended
-    requires { ⌜ Sound d s (now store) × Handed (now chain) c (now main) × Received (commandOf (now chain) c) u (now main) × (c .command ≡ NO-OPERATION → ⊥) ⌝ }
-    ensures { λ r. ⌜ Ends u (commandOf (now (chain .entry)) c) s r (now (main .exit)) (now (store .exit)) (step d (commandOf (now (chain .entry)) c) (stateOf u s) (now (main .entry)) (now (store .entry))) ⌝ }
+    requires { ⌜ Sound d s (now store) (now map) × Handed (now chain) c (now main) × Received (commandOf (now chain) c) u (now main) × (c .command ≡ NO-OPERATION → ⊥) ⌝ }
+    ensures { λ r. ⌜ Ends (holding u (now (map .exit))) (commandOf (now (chain .entry)) c) s r (now (main .exit)) (now (store .exit)) (step d (commandOf (now (chain .entry)) c) (stateOf (holding u (now (map .entry))) s) (now (main .entry)) (now (store .entry))) ⌝ }
 {
     let code = c.command;
     match code {
         command::DEFINE_EXTENT => define_extent(d, chain, c, s, main, store),
-        command::LOCATE => locate(u, chain, c, s, main),
-        command::READ => read(d, chain, c, s, main, store),
-        command::WRITE => write(d, chain, c, s, main, store),
-        command::READ_IPL => read_ipl(d, chain, c, s, main, store),
+        command::LOCATE => locate(d, u, chain, c, s, main, map),
+        command::READ => read(d, chain, c, s, main, store, map),
+        command::WRITE => write(d, chain, c, s, main, store, map),
+        command::READ_IPL => read_ipl(d, chain, c, s, main, store, map),
         command::SENSE => sense(u, chain, c, s, main),
         command::SENSE_TYPE => sense_type(chain, c, s, main),
         command::READ_LOG => read_log(chain, c, s, main),
@@ -74,9 +75,10 @@ pub fn step(
     s: Running,
     main: &mut [u8],
     store: &mut [u8],
+    map: &mut [u8],
 ) -> Ended
-    requires { ⌜ Sound d s (now store) × Decodes (now chain) c ⌝ }
-    ensures { λ r. ⌜ Ends u (commandOf (now (chain .entry)) c) s r (now (main .exit)) (now (store .exit)) (step d (commandOf (now (chain .entry)) c) (stateOf u s) (now (main .entry)) (now (store .entry))) ⌝ }
+    requires { ⌜ Sound d s (now store) (now map) × Decodes (now chain) c ⌝ }
+    ensures { λ r. ⌜ Ends (holding u (now (map .exit))) (commandOf (now (chain .entry)) c) s r (now (main .exit)) (now (store .exit)) (step d (commandOf (now (chain .entry)) c) (stateOf (holding u (now (map .entry))) s) (now (main .entry)) (now (store .entry))) ⌝ }
 {
     let cause = channel_cause(chain, c, main);
     if cause != 0 {
@@ -88,5 +90,5 @@ pub fn step(
     if c.command == command::NO_OPERATION {
         return accept(c, passed(s), 0, 0, 0);
     }
-    perform(d, u, chain, c, s, main, store)
+    perform(d, u, chain, c, s, main, store, map)
 }

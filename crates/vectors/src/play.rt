@@ -3,14 +3,16 @@
 ghost use Prim.Native.Nat.{_≤_, _<_};
 use crate::show;
 use crate::words;
+use crate::words::Device;
 use crate::words::Vector;
 use in_place::Ran;
 use model::record::Record;
+use model::record::UnitRecord;
 use model::sizes;
 use record::same_count;
 use record::same_sense;
 
-// The settings of a vector, each a bit; two bits more say which store (`store_bytes`).
+// The settings of a vector, each a bit; three bits more say which store and device (`words::Device`).
 const NOT_READY: u64 = 0x01;
 
 const READ_ONLY: u64 = 0x02;
@@ -26,12 +28,17 @@ const STORAGE_BYTE: u8 = 0xFF;
 
 const ANSWER_BYTE: u8 = 0xAA;
 
-// The longest that each buffer is: a chain, and its answers, of one CCW more than a chain may have; a store of eight blocks.
+// The longest that each buffer is: a chain, and its answers, of one CCW more than a chain may have; a store of eight blocks, or of 66.
 const CHAIN: usize = sizes::CHAIN_LIMIT + sizes::CCW;
 
 const STORAGE: usize = 1088;
 
 const STORE: usize = 8 * sizes::BLOCK;
+
+const LARGE_STORE: usize = 66 * sizes::BLOCK;
+
+// The map's bytes.
+const MAP: usize = 256;
 
 // A vector's number in print.
 pub struct Id {
@@ -49,17 +56,6 @@ fn least(a: usize, b: usize) -> usize
     ensures { λ r. ⌜ (r ≤ a) × (r ≤ b) ⌝ }
 {
     if a < b { a } else { b }
-}
-
-// How many bytes of store a setting lends.
-fn store_bytes(setting: u64) -> usize {
-    let which = setting / 16 % 4;
-    match which {
-        0 => STORE,
-        1 => sizes::BLOCK,
-        2 => 0,
-        _ => sizes::BLOCK + 1,
-    }
 }
 
 // A yes or no of the record.
@@ -80,8 +76,8 @@ fn nearly_full(unit: Record) -> Record {
     worn
 }
 
-// A new unit as the setting has it.
-fn fresh(setting: u64) -> Record {
+// A new unit as the setting has it, but for the map.
+fn unmapped(setting: u64) -> Record {
     let ready = yes_or_no(!has(setting, NOT_READY), setting);
     let read_only = yes_or_no(has(setting, READ_ONLY), setting);
     let unit = record::new_record(ready, read_only);
@@ -92,12 +88,37 @@ fn fresh(setting: u64) -> Record {
     }
 }
 
-// The record that the vector starts from: the one before it left, or a new one.
-fn start(left: Record, setting: u64) -> Record {
+// A new unit as the setting has it, with no entry of its map in use.
+fn fresh(setting: u64) -> UnitRecord {
+    UnitRecord {
+        unit: unmapped(setting),
+        map: [0; MAP],
+    }
+}
+
+// The record that the vector starts from, but for its own words of the map: the one before it left, or a new one.
+fn start(left: UnitRecord, setting: u64) -> UnitRecord {
     if has(setting, KEPT) {
         left
     } else {
         fresh(setting)
+    }
+}
+
+// Puts the vector's own words of the map where they go.
+fn enter(map: &mut [u8], d: Device, table: &[u64]) {
+    let from = least(d.map_from, map.len());
+    words::put(&mut map[from..], table, d.map_at, d.map_words);
+}
+
+// The record with the vector's own words of the map.
+fn entered(left: UnitRecord, d: Device, table: &[u64]) -> UnitRecord {
+    let unit = left.unit;
+    let mut map = left.map;
+    enter(&mut map, d, table);
+    UnitRecord {
+        unit: unit,
+        map: map,
     }
 }
 
@@ -127,7 +148,7 @@ fn lay(
 
 // Lends the buffers, each as long as the vector has it, to the library.
 fn run(
-    unit: Record,
+    unit: UnitRecord,
     v: Vector,
     chain: &[u8],
     storage: &mut [u8],
@@ -136,21 +157,29 @@ fn run(
 ) -> Ran {
     let c = least(v.chain, chain.len());
     let m = least(v.storage, storage.len());
-    let s = least(store_bytes(v.setting), store.len());
+    let d = v.device;
+    let s = least(d.store, store.len());
     let a = least(v.answers, answers.len());
     in_place::run_lending(
         unit,
         &chain[0..c],
         &mut storage[0..m],
         &mut store[0..s],
+        d.alternates,
         &mut answers[0..a],
     )
 }
 
-// The places that the vector wants shown, each after the other.
-fn shows(v: Vector, table: &[u64], unit: Record, storage: &[u8], store: &[u8], answers: &[u8]) {
-    let from = v.shows_at;
-    let n = v.shows;
+// The places that the n words from `from` on name, each after the other.
+fn shows(
+    from: usize,
+    n: usize,
+    table: &[u64],
+    unit: UnitRecord,
+    storage: &[u8],
+    store: &[u8],
+    answers: &[u8],
+) {
     let mut k = 0;
     while k < n {
         show::shown(words::word(table, from, k), unit, storage, store, answers);
@@ -176,7 +205,7 @@ fn tell(
     id: Id,
     v: Vector,
     table: &[u64],
-    before: Record,
+    before: UnitRecord,
     ran: Ran,
     storage: &[u8],
     store: &[u8],
@@ -185,17 +214,16 @@ fn tell(
     show::decimal(id.group);
     show::labelled(b".", id.number);
     show::line(ran, answers);
-    let after = ran.unit;
-    show::refused(ran.code, kept(before, after));
     let unit = ran.unit;
-    shows(v, table, unit, storage, store, answers);
+    show::refused(ran.code, kept(before.unit, unit.unit));
+    shows(v.shows_at, v.shows, table, unit, storage, store, answers);
 }
 
 // Runs one vector on this record.
 fn played(
     v: Vector,
     table: &[u64],
-    unit: Record,
+    unit: UnitRecord,
     chain: &mut [u8],
     storage: &mut [u8],
     store: &mut [u8],
@@ -210,13 +238,13 @@ fn one(
     id: Id,
     v: Vector,
     table: &[u64],
-    left: Record,
+    left: UnitRecord,
     chain: &mut [u8],
     storage: &mut [u8],
     store: &mut [u8],
     answers: &mut [u8],
-) -> Record {
-    let before = start(left, v.setting);
+) -> UnitRecord {
+    let before = entered(start(left, v.setting), v.device, table);
     let ran = played(v, table, before, chain, storage, store, answers);
     tell(id, v, table, before, ran, storage, store, answers);
     ran.unit
@@ -258,6 +286,16 @@ pub fn group(n: u64, title: &[u8], table: &[u64]) {
     let mut chain = [0; CHAIN];
     let mut storage = [0; STORAGE];
     let mut store = [0; STORE];
+    let mut answers = [0; CHAIN];
+    heading(n, title);
+    turns(n, table, &mut chain, &mut storage, &mut store, &mut answers);
+}
+
+// A group whose vectors may have a store of up to 66 blocks.
+pub fn large_group(n: u64, title: &[u8], table: &[u64]) {
+    let mut chain = [0; CHAIN];
+    let mut storage = [0; STORAGE];
+    let mut store = [0; LARGE_STORE];
     let mut answers = [0; CHAIN];
     heading(n, title);
     turns(n, table, &mut chain, &mut storage, &mut store, &mut answers);

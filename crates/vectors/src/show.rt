@@ -3,6 +3,7 @@ ghost use Prim.Native.Nat.{_<_};
 use in_place::Ran;
 use libc::STDOUT_FILENO;
 use model::record::Record;
+use model::record::UnitRecord;
 use model::sizes;
 
 pub fn text(t: &[u8]) {
@@ -105,6 +106,12 @@ fn counts(unit: Record) {
     bytes(&moved, 0, 2);
 }
 
+// Bytes of the map, four to an entry.
+fn entries(unit: UnitRecord, from: usize, n: usize) {
+    let map = unit.map;
+    place(b" map[", &map, from, n);
+}
+
 // A text and a number after it.
 pub fn labelled(label: &[u8], n: u64) {
     text(label);
@@ -114,7 +121,8 @@ pub fn labelled(label: &[u8], n: u64) {
 // The call's cause, the commands reached with their answers, and sense bytes 0, 1 and 7.
 pub fn line(ran: Ran, s: &[u8]) {
     let code = ran.code as u64;
-    let unit = ran.unit;
+    let left = ran.unit;
+    let unit = left.unit;
     labelled(b" cause=", code / 256);
     labelled(b" reached=", code % 256);
     answers(s, (code % 256) as u8);
@@ -134,15 +142,17 @@ pub fn refused(code: u32, kept: bool) {
 }
 
 // The place that a word of a vector's last part names.
-pub fn shown(w: u64, unit: Record, storage: &[u8], store: &[u8], answers: &[u8]) {
+pub fn shown(w: u64, left: UnitRecord, storage: &[u8], store: &[u8], answers: &[u8]) {
     let from = (w / 0x10000 % 0x10000) as usize;
     let n = (w % 0x10000) as usize;
     let what = w / 0x1_0000_0000;
+    let unit = left.unit;
     match what {
         0xA => place(b" answers[", answers, from, n),
         0xB => place(b" store[", store, from, n),
         0xC => counts(unit),
         0xD => place(b" main[", storage, from, n),
+        0xF => entries(left, from, n),
         _ => all_sense(unit),
     }
 }

@@ -4,9 +4,23 @@ use model::sizes;
 ghost use Prim.Native.Nat.{_<_, _≤_};
 ghost use lib.ListN.{length};
 
-// What a vector's first word says, and where in the table its parts begin.
+// The setting of a vector that has a word about its device after the first.
+const OWN_DEVICE: u64 = 0x80;
+
+// What a vector says about its device: alternates, bytes of store, and where in the map its words of the map go.
+pub struct Device {
+    pub alternates: u32,
+    pub store: usize,
+    pub map_from: usize,
+    pub map_words: usize,
+    pub map_at: usize,
+    pub next: usize,
+}
+
+// What a vector's first word says, its device, and where in the table its parts begin.
 pub struct Vector {
     pub setting: u64,
+    pub device: Device,
     pub chain: usize,
     pub answers: usize,
     pub storage: usize,
@@ -42,24 +56,68 @@ fn past(table: &[u64], at: usize, n: usize) -> usize
     }
 }
 
-// The vector at `at`, its first word taken apart.
+// How many bytes of store a setting with no word about the device lends.
+fn store_bytes(setting: u64) -> usize {
+    let which = setting / 16 % 4;
+    match which {
+        0 => 8 * sizes::BLOCK,
+        1 => sizes::BLOCK,
+        2 => 0,
+        _ => sizes::BLOCK + 1,
+    }
+}
+
+// The device of a vector whose first word is the one before `at`.
+fn given(table: &[u64], at: usize, setting: u64) -> Device
+    requires { ⌜ at ≤ length (now table) ⌝ }
+    ensures { λ r. ⌜ (at ≤ r .next) × (r .next ≤ length (now (table .entry))) ⌝ }
+{
+    if setting / OWN_DEVICE % 2 == 0 {
+        return Device {
+            alternates: 0,
+            store: store_bytes(setting),
+            map_from: 0,
+            map_words: 0,
+            map_at: at,
+            next: at,
+        };
+    }
+    let about = word(table, at, 0);
+    let map_words = (about % 0x100) as usize;
+    let map_at = past(table, at, 1);
+    let next = past(table, map_at, map_words);
+    Device {
+        alternates: (about / 0x1_0000_0000 % 0x1_0000_0000) as u32,
+        store: (about / 0x1_0000 % 0x1_0000) as usize * sizes::BLOCK,
+        map_from: (about / 0x100 % 0x100) as usize * 8,
+        map_words: map_words,
+        map_at: map_at,
+        next: next,
+    }
+}
+
+// The vector at `at`, its first words taken apart.
 pub fn opened(table: &[u64], at: usize) -> Vector
     requires { ⌜ at < length (now table) ⌝ }
     ensures { λ r. ⌜ (at < r .next) × (r .next ≤ length (now (table .entry))) ⌝ }
 {
     let head = table[at];
+    let setting = head / 0x100_0000_0000_0000;
+    let device = given(table, at + 1, setting);
+    let chain_at = device.next;
     let chain = (head / 0x100_0000_0000 % 0x10000) as usize;
     let storage_words = (head / 16 % 16) as usize;
     let shows = (head % 16) as usize;
-    let storage_at = past(table, at + 1, (chain + 7) / 8);
+    let storage_at = past(table, chain_at, (chain + 7) / 8);
     let shows_at = past(table, storage_at, storage_words);
     let next = past(table, shows_at, shows);
     Vector {
-        setting: head / 0x100_0000_0000_0000,
+        setting: setting,
+        device: device,
         chain: chain,
         answers: (head / 0x100_0000 % 0x10000) as usize,
         storage: (head / 0x100 % 0x10000) as usize,
-        chain_at: at + 1,
+        chain_at: chain_at,
         storage_words: storage_words,
         storage_at: storage_at,
         shows: shows,

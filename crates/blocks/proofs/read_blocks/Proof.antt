@@ -1,23 +1,36 @@
--- `read_blocks` meets its contract: the part of the store that is lent is the blocks. Assumes nothing.
-use Rattle.slices.proofs.Laws.{part-lent}
-use Rattle.model.proofs.Blocks.{blocks-from-part}
+-- `read_blocks` meets its contract: the blocks are one row, or they go by windows. Assumes nothing.
+use mathlib.Core.Path.{sym, _∙_}
+use Rattle.model.proofs.Blocks.{row-from-part}
+use Rattle.blocks.proofs.Rows.{unmapped-row}
+use Rattle.blocks.proofs.Asked.{row-movable}
 use borrow.Author.Needs.{needs}
 use Rattle.blocks.proofs.read_blocks.Statement.{statement}
 use Rattle.blocks.proofs.read_blocks.Tie as tie
 
+read-row-requires : tie.Need-read-row-requires
+read-row-requires c κs = row-movable _ _ _ _ _ _ _ _ _ (c .before .before .before .before .before .before .before .pre)
+
 returns : tie.Need-returns
 returns c =
-    let span = c .before .before .before .before .before .place .ensures in
-    rw (span .1, part-lent, span .0, ← blocks-from-part) at (c .before .before .deliver .ensures)
+    let a = c .before .before .before .before .before .before .before .before .before .before .args in
+    let none = sym (c .before .before .before .before .before .no-alternate .ensures) ∙ c .before .before .before .before .if1 .taken in
+    let row = unmapped-row (a .d) (a .map .now) (a .store .now) (a .block) (a .blocks) none in
+    rw (row-from-part (a .d) (a .map .now) (a .store .now) (a .block) (a .blocks) (a .block) row) (c .before .before .read-row .ensures)
+
+read-mapped-requires : tie.Need-read-mapped-requires
+read-mapped-requires c κs = c .before .before .before .before .before .before .before .pre
+
+returns-2 : tie.Need-returns-2
+returns-2 c = c .before .before .read-mapped .ensures
 
 pub read-blocks-spec : {M : Type 1} → statement M
 read-blocks-spec =
     tie.close
     (tie.spec
-    (search needs)  -- place-requires
-    (search needs)  -- sub-deliver
-    (search needs)  -- part-deliver-start
-    (search needs)  -- part-deliver-end
-    (λ c κs. search needs)  -- deliver-requires
+    (λ c κs. c .before .before .before .before .pre .mounted .whole-map)  -- no-alternate-requires
+    read-row-requires
     (search needs)  -- same-length
-    returns)
+    returns
+    read-mapped-requires
+    (search needs)  -- same-length-2
+    returns-2)

@@ -1,25 +1,37 @@
--- `store_blocks` meets its contract: the part of the store that is lent is filled, and is the blocks. Assumes nothing.
-use Rattle.slices.proofs.Laws.{put-lent-filled}
-use Rattle.model.proofs.Blocks.{blocks-into-part}
-use native.Mathlib.Omega.{arith}
+-- `store_blocks` meets its contract: the blocks are one row, or they go by windows. Assumes nothing.
+use mathlib.Core.Path.{sym, _∙_}
+use Rattle.model.proofs.Blocks.{row-into-part}
+use Rattle.blocks.proofs.Rows.{unmapped-row}
+use Rattle.blocks.proofs.Asked.{row-movable}
 use borrow.Author.Needs.{needs}
 use Rattle.blocks.proofs.store_blocks.Statement.{statement}
 use Rattle.blocks.proofs.store_blocks.Tie as tie
 
+store-row-requires : tie.Need-store-row-requires
+store-row-requires c κs = row-movable _ _ _ _ _ _ _ _ _ (c .before .before .before .before .before .before .before .pre)
+
 returns : tie.Need-returns
 returns c =
-    let stored = c .before .before .before .before .before .before .before .before .before .pre .stored in
-    let span = c .before .before .before .before .place .ensures in
-    rw (blocks-into-part _ _ _ _ _ (stored .inside), span .1, ← (span .0)) (put-lent-filled _ _ _ _ _ (rw (span .1) at (c .before .before .fill .ensures)) (omega arith))
+    let a = c .before .before .before .before .before .before .before .before .before .before .args in
+    let none = sym (c .before .before .before .before .before .no-alternate .ensures) ∙ c .before .before .before .before .if1 .taken in
+    let row = unmapped-row (a .d) (a .map .now) (a .store .now) (a .block) (a .blocks) none in
+    let inside = row-movable _ _ _ _ _ _ _ _ _ (c .before .before .before .before .before .before .before .before .before .before .pre) .stored in
+    rw (row-into-part (a .d) (a .map .now) (a .store .now) (a .block) (a .blocks) (a .block) _ row inside) (c .before .before .store-row .ensures)
+
+store-mapped-requires : tie.Need-store-mapped-requires
+store-mapped-requires c κs = c .before .before .before .before .before .before .before .pre
+
+returns-2 : tie.Need-returns-2
+returns-2 c = c .before .before .store-mapped .ensures
 
 pub store-blocks-spec : {M : Type 1} → statement M
 store-blocks-spec =
     tie.close
     (tie.spec
-    (search needs)  -- place-requires
-    (search needs)  -- sub-fill
-    (search needs)  -- part-fill-start
-    (search needs)  -- part-fill-end
-    (λ c κs. search needs)  -- fill-requires
+    (λ c κs. c .before .before .before .before .pre .mounted .whole-map)  -- no-alternate-requires
+    store-row-requires
     (search needs)  -- same-length
-    returns)
+    returns
+    store-mapped-requires
+    (search needs)  -- same-length-2
+    returns-2)

@@ -1,5 +1,5 @@
 -- `past_device` meets its contract. Assumes nothing.
-use Rattle.command_extent.proofs.Tests.{not-below}
+use Rattle.numbers.proofs.Choice.{not-below}
 use Rattle.command_extent.proofs.past_device.Statement.{statement}
 use Rattle.command_extent.proofs.past_device.Tie as tie
 

@@ -11,25 +11,25 @@ use Rattle.model.specs.Parameters.{modifiersIn, replicationIn}
 use Rattle.model.specs.Causes.{locationCauses, locationRules, permissionCauses}
 use Rattle.numbers.proofs.Joined.{either-false}
 use Rattle.model.proofs.Verdicts.{first-here, first-later}
-use Rattle.unit_state.specs.Standing.{stateOf}
+use Rattle.unit_state.specs.Standing.{holding, stateOf}
 use Rattle.command_locate.proofs.Tests.{eight, operation-low}
 use Rattle.command_locate.proofs.Locations.{location-lines, processed-small}
 use Rattle.command_locate.proofs.locate_parameters.Statement.{statement}
 use Rattle.command_locate.proofs.locate_parameters.Tie as tie
 
 abbrev state : tie.Start → State
-state c = stateOf (c .args .u) (c .args .s)
+state c = stateOf (holding (c .args .u) (c .args .map .now)) (c .args .s)
 
 abbrev lines : tie.After-wide → List Rule
-lines c = locationRules (state (c .before .before .before .before)) (modifiersIn (c .before .before .before .before .args .p .now)) (c .before .before .located-in .result) (c .wide .result)
+lines c = locationRules (c .before .before .before .before .before .args .d) (state (c .before .before .before .before .before)) (modifiersIn (c .before .before .before .before .before .args .p .now)) (c .before .before .located-in .result) (c .wide .result)
 
 -- the first k lines do not give the verdict
 abbrev Past : ℕ → tie.After-wide → Type 0
-Past k c = firstOf (locationCauses (state (c .before .before .before .before)) (c .before .before .before .before .args .p .now)) ≡ firstOf (drop k (lines c))
+Past k c = firstOf (locationCauses (c .before .before .before .before .before .args .d) (state (c .before .before .before .before .before)) (c .before .before .before .before .before .args .p .now)) ≡ firstOf (drop k (lines c))
 
 taken-apart : (c : tie.After-wide) → Past 0 c
 unfolding replicationIn
-taken-apart c = ap firstOf (location-lines _ _ _ _ (c .before .before .located-in .ensures .0) (c .wide .ensures .0))
+taken-apart c = ap firstOf (location-lines _ _ _ _ _ (c .before .before .located-in .ensures .0) (c .wide .ensures .0))
 
 past-modifiers : (c : tie.Else1) → Past 1 (c .before .before .before)
 unfolding modifiersIn
@@ -66,20 +66,22 @@ permit-requires c κs =
     let if2 = c .before .before .before .before .before .if2 in
     let wide = c .before .before .before .before .before .before .before .before .before .before .wide in
     let located-in = c .before .before .before .before .before .before .before .before .before .before .before .before .located-in in
-    (operation-low _ (sym (is-operation .ensures) ∙ not-false _ (if2 .left)), processed-small (located-in .result) (wide .result) _ (c .blocks-processed .ensures) (wide .ensures .1) (located-in .ensures .2))
+    let first = c .before .before .before .before .before .before .before .before .before .before .before .before .before .before .before in
+    (operation-low _ (sym (is-operation .ensures) ∙ not-false _ (if2 .left)), processed-small (located-in .result) (wide .result) _ (c .blocks-processed .ensures) (wide .ensures .1) (located-in .ensures .2), first .pre .1)
 
 returns-5 : tie.Need-returns-5
 returns-5 c =
     let located = c .before .before .before .before .before .before .before .before .before .before .before .before .before .located-in .result in
-    let s = state (c .before .before .before .before .before .before .before .before .before .before .before .before .before .before .before) in
-    c .permit .ensures ∙ ap (λ (n : ℕ). firstOf (permissionCauses s located n)) (c .before .blocks-processed .ensures) ∙ sym (past-replication (c .before .before))
+    let first = c .before .before .before .before .before .before .before .before .before .before .before .before .before .before .before .before in
+    let s = state first in
+    c .permit .ensures ∙ ap (λ (n : ℕ). firstOf (permissionCauses (first .args .d) s located n)) (c .before .blocks-processed .ensures) ∙ sym (past-replication (c .before .before))
 
 pub locate-parameters-spec : {M : Type 1} → statement M
 locate-parameters-spec = tie.close (tie.spec
-    (λ c κs. c .before .pre)  -- located-in-requires
-    (λ c. eight (c .before .before .before .pre) tt)  -- shared-slice-read-wide
+    (λ c κs. c .before .before .pre .0)  -- located-in-requires
+    (λ c. eight (c .before .before .before .before .pre .0) tt)  -- shared-slice-read-wide
     (λ c κs. tt)  -- wide-requires
-    (λ c. eight (c .before .before .before .before .before .pre) tt)  -- shared-slice-read-modifier-wrong
+    (λ c. eight (c .before .before .before .before .before .before .pre .0) tt)  -- shared-slice-read-modifier-wrong
     (λ c κs. tt)  -- modifier-wrong-requires
     returns
     (λ c κs. tt)  -- is-operation-requires

@@ -1,6 +1,7 @@
 -- `sense` meets its contract. Assumes nothing.
 use mathlib.Core.Path.{_≡_}
 use lib.ListN.{length}
+use Rattle.unit_state.specs.Standing.{holding}
 use Rattle.command_sense.proofs.Sending.{sense-ends}
 use borrow.Author.Needs.{needs}
 use Rattle.command_sense.proofs.sense.Statement.{statement}
@@ -13,7 +14,7 @@ returns c =
     let first = now .before .before .before .before in
     let a = first .args in
     let long : length (now .sense-now .result) ≡ 24 = search needs in
-    λ d store. sense-ends (a .u) d (a .chain .now) (a .c) (first .pre .0 .told) (a .s) (a .main .now) store _ _ _ (first .pre .1) (now .sense-now .ensures) long (sent .send .ensures .1) (sent .send .ensures .0)
+    λ map d store. sense-ends (holding (a .u) map) d (a .chain .now) (a .c) (first .pre .0 .told) (a .s) (a .main .now) store _ _ _ (first .pre .1) (now .sense-now .ensures) long (sent .send .ensures .1) (sent .send .ensures .0)
 
 pub sense-spec : {M : Type 1} → statement M
 sense-spec = tie.close (tie.spec

@@ -4,16 +4,15 @@ use Prim.Native.Nat.{_≤_, _-_, _*_}
 use native.Mathlib.Omega.{arith}
 use mathlib.Core.Path.{_≡_, refl}
 use lib.ListN.{length, take}
-use Rattle.model.specs.Chain.{classA}
 use Rattle.text_input.specs.Input.{mostBlocks}
-use Rattle.text_exercise.specs.Exercise.{newStore}
+use Rattle.text_exercise.specs.Exercise.{device, newStore}
 use Rattle.text_exercise.proofs.NewStore.{new-store-more, new-store-whole}
 use borrow.Author.Needs.{needs}
 use Rattle.text_exercise.proofs.number_blocks.Statement.{statement}
 use Rattle.text_exercise.proofs.number_blocks.Tie as tie
 
 abbrev Inv-loop : tie.InvT-loop
-Inv-loop store₀ blocks i₀ i-end store i = (i ≤ i-end) × (i-end ≡ length store₀) × (length store ≡ length store₀) × (length store₀ ≡ blocks * classA .block) × (blocks ≤ mostBlocks) × (take i store ≡ take i (newStore blocks))
+Inv-loop store₀ blocks i₀ i-end store i = (i ≤ i-end) × (i-end ≡ length store₀) × (length store ≡ length store₀) × (length store₀ ≡ blocks * device .block) × (blocks ≤ mostBlocks) × (take i store ≡ take i (newStore blocks))
 
 abbrev μ-loop : tie.MeasureT-loop
 μ-loop store₀ blocks i₀ i-end store i = i-end - i

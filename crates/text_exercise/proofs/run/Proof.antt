@@ -6,7 +6,7 @@ use Rattle.text_exercise.proofs.run.Statement.{statement}
 use Rattle.text_exercise.proofs.run.Tie as tie
 
 print-requires : tie.Need-print-requires
-print-requires c κs = answered (c .before .before .before .before .before .before .before .before .before .before .before .before .before .run-lending .ensures) (c .before .before .before .before .before .before .before .before .before .before .before .before .before .run-lending .kept .1 .1 .1 .1 .0 ∙ c .before .before .before .before .before .before .before .before .before .before .before .before .before .before .before .before .before .before .before .clear .kept .0 ∙ c .before .before .before .before .before .before .before .before .before .before .before .before .before .before .before .before .before .before .before .before .before .before .before .before .before .before .pre)
+print-requires c κs = answered (c .before .before .before .before .before .before .before .before .before .before .before .before .before .run-lending .ensures) (c .before .before .before .before .before .before .before .before .before .before .before .before .before .run-lending .kept .1 .1 .1 .1 .1 .0 ∙ c .before .before .before .before .before .before .before .before .before .before .before .before .before .before .before .before .before .before .before .clear .kept .0 ∙ c .before .before .before .before .before .before .before .before .before .before .before .before .before .before .before .before .before .before .before .before .before .before .before .before .before .before .pre)
 
 returns : tie.Need-returns
 returns c = rw (← (c .before .before .before .before .before .before .before .before .before .before .before .before .before .before .before .before .before .before .before .before .before .before .before .before .before .before .before .before .before .pre), ← (c .before .before .before .before .before .before .before .before .before .before .before .before .before .before .before .before .before .before .before .before .before .before .clear .ensures), ← (told (c .before .before .before .before .before .before .before .before .before .before .before .before .before .before .before .before .run-lending .ensures))) (c .before .before .print .ensures)

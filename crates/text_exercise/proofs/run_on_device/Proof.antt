@@ -4,7 +4,7 @@ use native.Mathlib.Omega.{arith}
 use mathlib.Core.Path.{_∙_, sym}
 use lib.ListN.{drop}
 use lib.Seq.{length-take-le, take-at}
-use Rattle.model.specs.Chain.{classA}
+use Rattle.text_exercise.specs.Exercise.{device}
 use Rattle.text_exercise.proofs.Runs.{exercised-is}
 use borrow.Author.Needs.{needs}
 use Rattle.text_exercise.proofs.run_on_device.Statement.{statement}
@@ -13,14 +13,14 @@ use Rattle.text_exercise.proofs.run_on_device.Tie as tie
 slice-aggregate-run : tie.Need-slice-aggregate-run
 slice-aggregate-run c =
     let a = c .before .before .before .before .before .before .before .before .before .before .before .before .before .before .args in
-    let kept = c .before .before .before .before .before .before .number-blocks .kept .0 ∙ length-take-le (a .s .blocks * classA .block) (a .store .now) (omega arith) in
+    let kept = c .before .before .before .before .before .before .number-blocks .kept .0 ∙ length-take-le (a .s .blocks * device .block) (a .store .now) (omega arith) in
     rw (take-at _ _ _ kept) (sym kept)
 
 returns : tie.Need-returns
 returns c =
     let a = c .before .before .before .before .before .before .before .before .before .before .before .before .before .before .before .before .before .before .before .before .before .before .before .before .args in
-    let kept = c .before .before .before .before .before .before .before .before .before .before .before .before .before .before .before .before .number-blocks .kept .0 ∙ length-take-le (a .s .blocks * classA .block) (a .store .now) (omega (arith, c .before .before .before .before .before .before .before .before .before .before .before .before .before .before .before .before .before .before .before .before .before .before .before .before .pre)) in
-    rw (exercised-is (a .s) (a .chain .now) (a .main .now) _ _ (take-at _ (drop (a .s .blocks * classA .block) (a .store .now)) _ kept ∙ c .before .before .before .before .before .before .before .before .before .before .before .before .before .before .before .before .number-blocks .ensures) (c .before .before .before .before .before .before .before .before .before .before .before .before .before .new-record .ensures)) (c .before .before .before .before .before .before .before .before .run .ensures)
+    let kept = c .before .before .before .before .before .before .before .before .before .before .before .before .before .before .before .before .number-blocks .kept .0 ∙ length-take-le (a .s .blocks * device .block) (a .store .now) (omega (arith, c .before .before .before .before .before .before .before .before .before .before .before .before .before .before .before .before .before .before .before .before .before .before .before .before .pre)) in
+    rw (exercised-is (a .s) (a .chain .now) (a .main .now) _ _ (take-at _ (drop (a .s .blocks * device .block) (a .store .now)) _ kept ∙ c .before .before .before .before .before .before .before .before .before .before .before .before .before .before .before .before .number-blocks .ensures) (c .before .before .before .before .before .before .before .before .before .before .before .before .new-unit .ensures)) (c .before .before .before .before .before .before .before .before .run .ensures)
 
 pub run-on-device-spec : {M : Type 1} → statement M
 run-on-device-spec = tie.close (tie.spec
@@ -28,7 +28,7 @@ run-on-device-spec = tie.close (tie.spec
     (search needs)  -- slice-relend-prefix-number-blocks
     (λ c. sym (length-take-le _ _ (omega arith)))  -- slice-aggregate-number-blocks
     (λ c κs. (length-take-le _ _ (omega arith), c .before .before .before .before .before .before .before .pre .0))  -- number-blocks-requires
-    (search needs)  -- new-record-requires
+    (search needs)  -- new-unit-requires
     (search needs)  -- slice-relend-prefix-run
     slice-aggregate-run
     (search needs)  -- run-requires

@@ -10,20 +10,20 @@ use Rattle.loughrella.proofs.class.mark_each.Statement.{statement}
 use Rattle.loughrella.proofs.class.mark_each.Tie as tie
 
 abbrev Inv-loop : tie.InvT-loop
-Inv-loop chains storage₀ store₀ unit₀ results₀ at₀ used₀ storage store unit results at used =
+Inv-loop d chains storage₀ store₀ unit₀ results₀ at₀ used₀ storage store unit results at used =
     (length storage ≡ length storage₀) × (length store ≡ length store₀) × (length unit ≡ length unit₀) × (length results ≡ length results₀)
-    × Marking chains storage₀ store₀ unit₀ results₀ storage store unit results at used
+    × Marking d chains storage₀ store₀ unit₀ results₀ storage store unit results at used
 
 abbrev μ-loop : tie.MeasureT-loop
-μ-loop chains storage₀ store₀ unit₀ results₀ at₀ used₀ storage store unit results at used = length chains - at
+μ-loop d chains storage₀ store₀ unit₀ results₀ at₀ used₀ storage store unit results at used = length chains - at
 
 loop-holds : tie.Need-loop-holds Inv-loop μ-loop
-loop-holds c = (refl, refl, refl, refl, marking-none _ _ _ _ _ (c .before .before .before .before .before .pre))
+loop-holds c = (refl, refl, refl, refl, marking-none _ _ _ _ _ _ (c .before .before .before .before .before .pre .1))
 
 -- of a turn: the chain is there, and so is room for its result
 
 there : (c : tie.In-loop Inv-loop μ-loop) → let l = c .before .loop in let chains = c .before .before .before .before .before .before .before .args .chains .now in l .at + 2 + be2 chains (l .at) ≤ length chains
-there c = let l = c .before .loop in next-there _ _ _ _ _ (l .storage) (l .store) (l .unit) (l .results) (l .at) (l .used) (l .inv .4) (c .loop-test .taken)
+there c = let l = c .before .loop in next-there _ _ _ _ _ _ (l .storage) (l .store) (l .unit) (l .results) (l .at) (l .used) (l .inv .4) (c .loop-test .taken)
 
 chain-there : (c : tie.After-result-size Inv-loop μ-loop) → c .before .before .before .loop .at + 2 + c .before .be2 .result ≤ length (c .before .before .before .before .before .before .before .before .before .args .chains .now)
 chain-there c = rw (c .before .be2 .ensures .0) (there (c .before .before))
@@ -31,7 +31,7 @@ chain-there c = rw (c .before .be2 .ensures .0) (there (c .before .before))
 room-there : (c : tie.After-result-size Inv-loop μ-loop) → let l = c .before .before .before .loop in l .used + c .result-size .result ≤ length (l .results)
 room-there c =
     let l = c .before .before .before .loop in
-    rw (c .result-size .ensures, c .before .be2 .ensures .0) (next-room _ _ _ _ _ (l .storage) (l .store) (l .unit) (l .results) (l .at) (l .used) (l .inv .4) (c .before .before .loop-test .taken))
+    rw (c .result-size .ensures, c .before .be2 .ensures .0) (next-room _ _ _ _ _ _ (l .storage) (l .store) (l .unit) (l .results) (l .at) (l .used) (l .inv .4) (c .before .before .loop-test .taken))
 
 be2-requires : tie.Need-be2-requires Inv-loop μ-loop
 be2-requires c κs = omega (arith, there c)
@@ -48,7 +48,7 @@ part-mark-end-2 c = room-there (c .before .before .before .before)
 mark-requires : tie.Need-mark-requires Inv-loop μ-loop
 mark-requires c κs =
     let l = c .before .before .before .before .before .before .before .before .loop in
-    head-fits _ _ _ _ _ (l .storage) (l .store) (l .unit) (l .results) (l .at) (l .used) (l .inv .4) (c .before .before .before .before .before .before .before .loop-test .taken) _ _ (c .before .before .before .before .before .before .be2 .ensures .0) (c .before .before .before .before .before .result-size .ensures)
+    (c .before .before .before .before .before .before .before .before .before .before .before .before .before .before .pre .0, head-fits _ _ _ _ _ _ (l .storage) (l .store) (l .unit) (l .results) (l .at) (l .used) (l .inv .4) (c .before .before .before .before .before .before .before .loop-test .taken) _ _ (c .before .before .before .before .before .before .be2 .ensures .0) (c .before .before .before .before .before .result-size .ensures))
 
 loop-less : tie.Need-loop-less Inv-loop μ-loop
 loop-less c = search needs
@@ -57,11 +57,11 @@ loop-again : tie.Need-loop-again Inv-loop μ-loop
 loop-again c =
     let l = c .before .before .before .before .before .before .before .before .before .before .before .before .before .before .before .before .before .loop in
     let m = c .before .before .before .before .before .before .before .before .mark in (
-      m .kept .1 .0 ∙ l .inv .0,
-      m .kept .1 .1 .0 ∙ l .inv .1,
-      m .kept .1 .1 .1 .0 ∙ l .inv .2,
+      m .kept .1 .1 .0 ∙ l .inv .0,
+      m .kept .1 .1 .1 .0 ∙ l .inv .1,
+      m .kept .1 .1 .1 .1 .0 ∙ l .inv .2,
       search needs,
-      marking-more _ _ _ _ _ (l .storage) (l .store) (l .unit) (l .results) (l .at) (l .used) (l .inv .4) (c .before .before .before .before .before .before .before .before .before .before .before .before .before .before .before .before .loop-test .taken) _ _ (c .before .before .before .before .before .before .before .before .before .before .before .before .before .before .before .be2 .ensures .0) (c .before .before .before .before .before .before .before .before .before .before .before .before .before .before .result-size .ensures) _ _ _ _ (m .ensures) (m .kept .1 .1 .1 .1 .0),
+      marking-more _ _ _ _ _ _ (l .storage) (l .store) (l .unit) (l .results) (l .at) (l .used) (l .inv .4) (c .before .before .before .before .before .before .before .before .before .before .before .before .before .before .before .before .loop-test .taken) _ _ (c .before .before .before .before .before .before .before .before .before .before .before .before .before .before .before .be2 .ensures .0) (c .before .before .before .before .before .before .before .before .before .before .before .before .before .before .result-size .ensures) _ _ _ _ (m .ensures) (m .kept .1 .1 .1 .1 .1 .0),
     )
 
 same-length : tie.Need-same-length Inv-loop μ-loop
@@ -77,7 +77,7 @@ same-length-4 : tie.Need-same-length-4 Inv-loop μ-loop
 same-length-4 c = search needs
 
 returns : tie.Need-returns Inv-loop μ-loop
-returns c = marked-all _ _ _ _ _ _ _ _ _ _ _ (c .before .loop .inv .4) (c .loop-test .left)
+returns c = marked-all _ _ _ _ _ _ _ _ _ _ _ _ (c .before .loop .inv .4) (c .loop-test .left)
 
 pub mark-each-spec : {M : Type 1} → statement M
 mark-each-spec =

@@ -6,8 +6,8 @@ use Rattle.vectors.proofs.play.shows.Tie as tie
 
 pub shows-spec : {M : Type 1} → statement M
 shows-spec = tie.close (tie.spec
-    (λ table unit storage store answers from n k₀ t10 k. k ≤ n)  -- Inv-loop
-    (λ table unit storage store answers from n k₀ t10 k. n - k)  -- μ-loop
+    (λ from n table unit storage store answers k₀ t10 k. k ≤ n)  -- Inv-loop
+    (λ from n table unit storage store answers k₀ t10 k. n - k)  -- μ-loop
     (search needs)  -- loop-holds
     (search needs)  -- word-requires
     (search needs)  -- shown-requires

@@ -1,0 +1,3 @@
+pub mod NoneUsed
+pub mod Wrong
+pub mod Placing
