@@ -149,20 +149,26 @@ fn outside_extent(e: Extent, d: Displacement, n: usize) -> bool
     past < end
 }
 
-// By mask bits 0-1, the operations that are forbidden, each a bit: 2 write, 4 read replicated, 10 format, 20 write and check, 40 read.
-const FORBIDDEN: [u8; 4] = [0x10, 0x32, 0x76, 0x00];
-
-// A mask of more than a byte stands for no line of the table: nothing is forbidden.
+// Mask bits 0-1: 00 and 01 forbid a format, 01 the other writes too; 11 forbids nothing, and 10, which is invalid, every operation.
 fn mask_forbids(mask: u32, operation: u32) -> bool
     requires { ⌜ operation < 7 ⌝ }
     ensures { λ r. ⌜ r ≡ forbids mask operation ⌝ }
 {
-    let kind = (mask >> 6) as usize;
-    if 4 <= kind {
+    let bit_0 = (mask >> 7) & 1 == 1;
+    let bit_1 = (mask >> 6) & 1 == 1;
+    if bit_0 {
+        if bit_1 {
+            return false;
+        }
+        return is_operation(operation);
+    }
+    if operation == operation::FORMAT {
+        return true;
+    }
+    if !bit_1 {
         return false;
     }
-    let bits = FORBIDDEN[kind] as u32;
-    (bits >> operation) & 1 != 0
+    operation::writes(operation)
 }
 
 // The unit is read-only, and the operation writes or formats.

@@ -17,6 +17,7 @@ pub mod Records
 pub mod Hosts
 pub mod Class
 pub mod Exactly
+pub mod Permissions
 pub mod Read
 pub mod Reached
 pub mod OneByOne

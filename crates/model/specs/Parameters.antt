@@ -3,16 +3,17 @@
 --     locatedIn, modifiersIn, replicationIn, processed
 --                                        01, LOCATE; 002, 2.1.4: the eight bytes
 --     operations, reads, writes          the five operations
---     forbidden, forbids                 the operations that a mask forbids: the one table
+--     forbids                            the operations that a mask forbids, by its bits 0-1
 --     address                            the address rule: the one place where offset and displacement meet
 --     outside                            a block to be processed is outside the extent
 -- Offset and displacement are two kinds of number: an offset counts from the device's first block, a displacement
 -- from the data set's first. Sums are of whole numbers: nothing wraps. Assumes nothing.
-use Prim.Native.Nat.{ℕ, _+_, _-_, _/_, _%_}
-use mathlib.Core.Bool.{Bool, _||_}
+use Prim.Native.Nat.{ℕ, _+_, _-_, _%_}
+use mathlib.Core.Bool.{Bool, not, _&&_, _||_}
 use mathlib.Core.List.{List, [], _∷_}
 use lib.ListN.{getD}
 use Rattle.numbers.specs.Big.{be2, be4}
+use Rattle.numbers.specs.Bits.{bit}
 use Rattle.model.specs.declared.extent.Displacement.{Displacement}
 use Rattle.model.specs.declared.extent.Extent.{Extent}
 use Rattle.model.specs.declared.extent.Located.{Located}
@@ -62,17 +63,12 @@ reads = oneOf (read-data ∷ read-replicated ∷ [])
 abbrev pub writes : ℕ → Bool
 writes = oneOf (write-data ∷ write-check ∷ [])
 
--- 01, DEFINE EXTENT; 002, 2.1.3: by mask bits 0-1, the operations that are forbidden. Cause 22 keeps 10 from ever standing.
-abbrev pub forbidden : List (List ℕ)
-forbidden =
-    (format ∷ [])  -- 00
-    ∷ (format ∷ write-data ∷ write-check ∷ [])  -- 01
-    ∷ operations  -- 10
-    ∷ []  -- 11
-    ∷ []
-
+-- 01, DEFINE EXTENT; 002, 2.1.3: whether mask bits 0-1 forbid an operation. 11 forbids none. Cause 22 keeps 10 from ever standing.
 unfoldable pub forbids : ℕ → ℕ → Bool
-forbids mask operation = oneOf (getD forbidden (mask / 64) []) operation
+forbids mask operation =
+    (not (bit mask 0) && operation =? format)  -- 00 and 01: "Format write operations shall be inhibited"
+    || (not (bit mask 0) && bit mask 1 && writes operation)  -- 01: "All write operations shall be inhibited"
+    || (bit mask 0 && not (bit mask 1) && oneOf operations operation)  -- 10: "Invalid, must not be used"
 
 -- 002, 2.1.4: "FirstBlockAccessed = RelativeDisplacement - ExtentFirstDisplacement + Extent Offset"
 unfoldable pub address : Extent → Displacement → ℕ
