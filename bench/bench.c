@@ -21,6 +21,7 @@
 
 typedef uint32_t run_function(const uint8_t *, size_t, uint8_t *, size_t, uint8_t *, size_t, uint32_t, uint8_t *, size_t, uint8_t *,
                               size_t);
+typedef uint32_t give_back_function(uint8_t *, size_t, uint32_t, uint8_t *, size_t, uint32_t);
 
 struct machine {
     uint8_t chain[CLASS * (2 + 3 * 8)]; // or, each after its length, those of a class
@@ -73,12 +74,20 @@ static void write_127(struct machine *m) { transfer(m, 0x41, 127, 127 * BLOCK); 
 static void write_1_short(struct machine *m) { transfer(m, 0x41, 1, BLOCK / 2); }
 static void write_127_short(struct machine *m) { transfer(m, 0x41, 127, 127 * BLOCK / 2); }
 
-// READ of 127 blocks of a device with alternates. So many of them are used, by every other block of those that are read.
+// The block at alternate i, where all are used: every other one of the 127.
+static unsigned block_at(unsigned i) { return FIRST_BLOCK + 2 * i; }
+static void map_block(struct machine *m, unsigned i) { m->record[MAP_AT + 4 * i + 3] = (uint8_t)(block_at(i) + 1); }
+
+static void use_alternates(struct machine *m, unsigned used)
+{
+    m->alternates = ALTERNATES;
+    for (unsigned i = 0; i < used; i++) map_block(m, i);
+}
+
 static void read_127_alternates(struct machine *m, unsigned used)
 {
     read_127(m);
-    m->alternates = ALTERNATES;
-    for (unsigned i = 0; i < used; i++) m->record[MAP_AT + 4 * i + 3] = (uint8_t)(FIRST_BLOCK + 2 * i + 1); // its number plus 1
+    use_alternates(m, used);
 }
 
 static void read_127_none(struct machine *m) { read_127_alternates(m, 0); }
@@ -129,8 +138,12 @@ static void class_read_1(struct machine *m)
     m->chain_len *= CLASS;
 }
 
-struct program { run_function *run, *run_class; };
-static const struct program library = {loughrella_run, loughrella_run_class}, second = {second_run, second_run_class};
+// All are used, and one in the middle is given back, again and again.
+static void give_back(struct machine *m) { use_alternates(m, ALTERNATES); }
+
+struct program { run_function *run, *run_class; give_back_function *give_back; };
+static const struct program library = {loughrella_run, loughrella_run_class, loughrella_give_back};
+static const struct program second = {second_run, second_run_class, second_give_back};
 
 static const struct { const char *name; void (*make)(struct machine *); uint32_t result; } workloads[] = {
     {"read-1", read_1, 3}, {"read-127", read_127, 3}, {"write-1", write_1, 3}, {"write-127", write_127, 3},
@@ -139,9 +152,30 @@ static const struct { const char *name; void (*make)(struct machine *); uint32_t
     {"refused-cause-1", refused_call, 256}, {"refused-first-command", refused_first, 1}, {"no-operation-32", no_operations, 32},
     {"class-100-read-1", class_read_1, 0}, // the one whose function is that of a class
     {"read-127-alternates-none", read_127_none, 3}, {"read-127-alternates-half", read_127_half, 3},
-    {"read-127-alternates-all", read_127_all, 3},
+    {"read-127-alternates-all", read_127_all, 3}, {"give-back", give_back, 0}, // the one that runs no chain
 };
 #define WORKLOADS (sizeof workloads / sizeof *workloads)
+
+static uint32_t run_times(struct machine *m, size_t store_len, unsigned long times, run_function *function, uint32_t result)
+{
+    uint32_t wrong = 0;
+    for (unsigned long i = 0; i < times; i++)
+        wrong |= function(m->chain, m->chain_len, m->storage, sizeof m->storage, m->store, store_len, m->alternates, m->record,
+                          sizeof m->record, m->answers, sizeof m->answers) ^ result;
+    return wrong;
+}
+
+// The block is mapped again before each call.
+static uint32_t give_back_times(struct machine *m, size_t store_len, unsigned long times, give_back_function *function)
+{
+    const unsigned alternate = ALTERNATES / 2;
+    uint32_t wrong = 0;
+    for (unsigned long i = 0; i < times; i++) {
+        map_block(m, alternate);
+        wrong |= function(m->store, store_len, m->alternates, m->record, sizeof m->record, block_at(alternate));
+    }
+    return wrong;
+}
 
 static int run(size_t which, unsigned long times, const struct program *program)
 {
@@ -151,11 +185,9 @@ static int run(size_t which, unsigned long times, const struct program *program)
     for (size_t i = 0; i < sizeof m.storage; i++) m.storage[i] = (uint8_t)(i * 5);
     second_record(m.record, sizeof m.record, 1, 0);
     workloads[which].make(&m);
-    uint32_t wrong = 0;
     size_t store_len = BLOCK * (size_t)(DEVICE_BLOCKS + m.alternates);
-    for (unsigned long i = 0; i < times; i++)
-        wrong |= function(m.chain, m.chain_len, m.storage, sizeof m.storage, m.store, store_len, m.alternates, m.record,
-                          sizeof m.record, m.answers, sizeof m.answers) ^ workloads[which].result;
+    uint32_t wrong = workloads[which].make == give_back ? give_back_times(&m, store_len, times, program->give_back)
+                                                        : run_times(&m, store_len, times, function, workloads[which].result);
     if (wrong != 0) fprintf(stderr, "%s: wrong result\n", workloads[which].name);
     return wrong == 0 ? 0 : 1;
 }

@@ -1,11 +1,12 @@
-/* The recovery course: a block of the disk goes bad, and the driver gives it another place.
+/* The recovery course: blocks of the disk go bad, and the driver gives them another place; then the term ends.
  *
  *     cc recovery.c $(pkg-config --cflags --libs loughrella) && ./a.out
  *
  * The unit of this course has no flaws of its own, so the program only says that a block has failed; a driver would have seen it
  * in the sense after a READ. What the driver does then is real: a Format Defective Block, which has the unit take an alternate
  * for the block, and a WRITE of the data, for a format moves none. At last the alternates are used up, and the driver reads that
- * from the sense. The printout is recovery.out. */
+ * from the sense. When the term ends the alternates are given back, so that the next one has them; only the one that failed itself
+ * stays defective. The printout is recovery.out. */
 #include <loughrella.h>
 
 #include <stdio.h>
@@ -14,7 +15,6 @@
 
 #define BLOCKS 8u     /* the device's blocks, 0 to 7: its primaries */
 #define ALTERNATES 3u /* behind them in the store: blocks 8, 9 and 10 of it */
-#define PAGE 5u       /* the block of this story */
 
 /* Main storage: the parameters of the driver's commands, sense, and data. */
 #define EXTENT_AT 0u
@@ -26,6 +26,7 @@ enum { WRITE = 0x41, READ = 0x42, LOCATE = 0x43, DEFINE_EXTENT = 0x63, SENSE = 0
 enum { WRITE_DATA = 1, FORMAT_DEFECTIVE_BLOCK = 4, READ_DATA = 6 };                    /* operations of a LOCATE */
 enum { END = 0x00, CHAIN = 0x40, SUPPRESS_LENGTH = 0x20 };                             /* flags */
 
+static const unsigned pages[] = {2, 5, 6}; /* the blocks of this story */
 static uint8_t store[(BLOCKS + ALTERNATES) * LOUGHRELLA_BLOCK_SIZE];
 static uint8_t storage[DATA_AT + LOUGHRELLA_BLOCK_SIZE];
 static uint8_t record[LOUGHRELLA_RECORD_SIZE];
@@ -113,14 +114,14 @@ static void write_block(unsigned block, const char *text)
     run();
 }
 
-/* To main storage, where the text ends with the first zero. */
-static const char *read_block(unsigned block)
+/* To main storage. */
+static const uint8_t *read_block(unsigned block)
 {
     add_extent();
     add_locate(READ_DATA, block, CHAIN);
     add_command(READ, DATA_AT, END, LOUGHRELLA_BLOCK_SIZE);
     run();
-    return (const char *)storage + DATA_AT;
+    return storage + DATA_AT;
 }
 
 static const uint8_t *read_sense(void)
@@ -130,28 +131,60 @@ static const uint8_t *read_sense(void)
     return storage + SENSE_AT;
 }
 
-/* ---- What there is to see. A driver sees none of this: it is the unit's own, and lies in the record and in the store. */
+/* ---- What the teacher does: it is no command, and no chain is run. */
+
+/* Gives the block's alternate back: its data goes to the block's own place, and zeros to the alternate. Tells the cause. */
+static unsigned give_back(unsigned block)
+{
+    return (unsigned)LOUGHRELLA_CAUSE(loughrella_give_back(store, sizeof store, ALTERNATES, record, sizeof record, block));
+}
+
+/* ---- What there is to see. A driver sees what READ shows; the rest is the unit's own, and lies in the record and in the store. */
+
+/* The text that a block begins with, unless every byte of it is zero. */
+static void show_bytes(const char *what, const uint8_t *block)
+{
+    unsigned i = 0;
+
+    while (i < LOUGHRELLA_BLOCK_SIZE && block[i] == 0) i++;
+    if (i == LOUGHRELLA_BLOCK_SIZE) printf("%s zeros", what);
+    else printf("%s \"%s\"", what, (const char *)block);
+}
+
+static void show_block(unsigned block)
+{
+    printf("  block %u:", block);
+    show_bytes(" READ shows", read_block(block));
+    show_bytes("; its own place holds", store + LOUGHRELLA_BLOCK_SIZE * block);
+    printf("\n");
+}
 
 static uint32_t map_entry(unsigned alternate) { return get32(record + LOUGHRELLA_MAP_AT + LOUGHRELLA_ENTRY_SIZE * alternate); }
+
+static void show_alternate(unsigned alternate)
+{
+    uint32_t entry = map_entry(alternate);
+
+    printf("  alternate %u: %08X, ", alternate, (unsigned)entry);
+    if (entry == LOUGHRELLA_UNUSED) printf("unused");
+    else if (entry == LOUGHRELLA_DEFECTIVE) printf("defective");
+    else printf("it is block %u", (unsigned)entry - 1);
+    show_bytes("; it holds", store + LOUGHRELLA_BLOCK_SIZE * (BLOCKS + alternate));
+    printf("\n");
+}
 
 static void show_map(void)
 {
     unsigned i;
 
-    for (i = 0; i < ALTERNATES; i++) {
-        uint32_t entry = map_entry(i);
-
-        printf("  alternate %u: %08X, ", i, (unsigned)entry);
-        if (entry == LOUGHRELLA_UNUSED) printf("unused");
-        else if (entry == LOUGHRELLA_DEFECTIVE) printf("defective");
-        else printf("it is block %u", (unsigned)entry - 1);
-        printf("; in the store \"%s\"\n", (const char *)store + LOUGHRELLA_BLOCK_SIZE * (BLOCKS + i));
-    }
+    for (i = 0; i < ALTERNATES; i++) show_alternate(i);
 }
 
 static void show_device(void)
 {
-    printf("  block %u itself: in the store \"%s\"\n", PAGE, (const char *)store + LOUGHRELLA_BLOCK_SIZE * PAGE);
+    unsigned i;
+
+    for (i = 0; i < sizeof pages / sizeof *pages; i++) show_block(pages[i]);
     show_map();
 }
 
@@ -174,41 +207,60 @@ static void explain(const uint8_t *sense)
 
 /* ---- The story. */
 
-static void show_block(unsigned block) { printf("  READ of block %u shows \"%s\"\n", block, read_block(block)); }
-
-/* Block PAGE has failed. The driver has its data, and gives it a new place. Tells whether there was one. */
-static int recover(const char *data)
+/* A block has failed. The driver has its data, and gives it a new place, if there is one. */
+static void recover(unsigned block, const char *data)
 {
-    const uint8_t *answer = format_block(PAGE);
+    const uint8_t *answer = format_block(block);
 
-    printf("\nBlock %u has failed. Format Defective Block: unit status %02X, cause %u\n", PAGE, answer[0], answer[4]);
+    printf("\nBlock %u has failed. Format Defective Block: unit status %02X, cause %u\n", block, answer[0], answer[4]);
     if (answer[4] == LOUGHRELLA_NO_ALTERNATE) {
         explain(read_sense());
-        return 0;
+        return;
     }
-    show_block(PAGE); /* a format moves no data: it shows what the alternate held */
-    write_block(PAGE, data);
+    show_block(block); /* a format moves no data: READ shows what the alternate held */
+    write_block(block, data);
     printf("  written again\n");
-    show_block(PAGE);
-    show_device();
-    return 1;
+    show_block(block);
+    show_map();
+}
+
+/* Every block is asked for, and the one behind the last. */
+static void give_all_back(void)
+{
+    unsigned block, not_mapped = 0;
+
+    for (block = 0; block <= BLOCKS; block++) {
+        unsigned cause = give_back(block);
+
+        if (cause == LOUGHRELLA_ACCEPTED) printf("  block %u: given back\n", block);
+        if (cause == LOUGHRELLA_NOT_MAPPED) not_mapped++;
+        if (cause == LOUGHRELLA_BEYOND_DEVICE) printf("  block %u: cause %u, the device has no such block\n", block, cause);
+    }
+    printf("  %u other blocks: cause %u, they have no alternate\n", not_mapped, (unsigned)LOUGHRELLA_NOT_MAPPED);
 }
 
 int main(void)
 {
-    static const char *const copies[] = {"page 5, second copy", "page 5, third copy", "page 5, fourth copy", "page 5, fifth copy"};
-    unsigned failures = 0;
-
     loughrella_record(record, sizeof record, 1, 0);
-    printf("A device of %u blocks, and %u alternates behind them. Block %u is written.\n", BLOCKS, ALTERNATES, PAGE);
-    write_block(PAGE, "page 5, first copy");
-    show_block(PAGE);
+    printf("A device of %u blocks, and %u alternates behind them. Three pages are written.\n", BLOCKS, ALTERNATES);
+    write_block(2, "page 2, first copy");
+    write_block(5, "page 5, first copy");
+    write_block(6, "page 6, first copy");
     show_device();
 
-    while (failures < sizeof copies / sizeof *copies && recover(copies[failures])) failures++;
+    recover(5, "page 5, second copy");
+    recover(5, "page 5, third copy"); /* now it was its alternate that failed, and that is defective for good */
+    recover(2, "page 2, second copy");
+    recover(6, "page 6, second copy"); /* refused: the page stays where it was */
 
-    printf("\nAfter %u formats that were done:\n", failures);
-    show_block(PAGE); /* where it was before the one that was refused */
+    printf("\nThe term ends:\n");
     show_device();
+    printf("The teacher gives the alternates back, block by block:\n");
+    give_all_back();
+    printf("READ shows every page as before; one alternate stays defective, and the others are as new:\n");
+    show_device();
+
+    printf("\nA new term.");
+    recover(6, "page 6, second copy"); /* takes the lowest that was given back */
     return 0;
 }

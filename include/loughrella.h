@@ -1,8 +1,8 @@
 /* Loughrella: a disk control unit to learn channel programming with (FIPS 97, fixed blocks of 512 bytes).
  *
- * Three functions: a chain is run, a class of chains is run, a unit record is set up. None keeps anything between calls,
- * allocates, prints or fails: every input has its result, and all that is written is in the buffers that are lent. They may
- * run at the same time on buffers of their own.
+ * Four functions: a chain is run, a class of chains is run, a unit record is set up, an alternate is given back. None keeps
+ * anything between calls, allocates, prints or fails: every input has its result, and all that is written is in the buffers that
+ * are lent. They may run at the same time on buffers of their own.
  *
  * A buffer is a pointer and its length in bytes; where the length is 0 the pointer may be anything, NULL too. The caller
  * owns the buffers and gets them back when the function returns. The buffers of one call must not overlap: nothing is
@@ -21,6 +21,7 @@ extern "C" {
 #endif
 
 /* Grows with what this file offers, and says where a caller may have to change something.
+ *   6  loughrella_give_back, and causes 50 and 51, which it alone gives. No caller has to change anything.
  *   5  Alternates for defective blocks. Every caller has to change two things: loughrella_run and loughrella_run_class take the
  *      number of alternates after the store's length, 0 where there are none, and then the store is what it was; and the unit
  *      record has 290 bytes, the 34 that it had and after them the map. To a record that was kept from before, 256 zeros are
@@ -35,7 +36,7 @@ extern "C" {
  *   2  The residual of a command that its parameters refused (causes 22 to 26, 32 to 39) is the count less the parameters,
  *      which were read. It was the whole count: who took it for that takes the count from the CCW.
  *   1  The first. */
-#define LOUGHRELLA_VERSION 5
+#define LOUGHRELLA_VERSION 6
 
 #define LOUGHRELLA_BLOCK_SIZE 512u       /* bytes of a block */
 #define LOUGHRELLA_MAX_BLOCKS 131072u    /* blocks of a store, its alternates among them */
@@ -173,6 +174,24 @@ static inline int loughrella_next_result(struct loughrella_walk *at)
  * Returns 0; or 256 times LOUGHRELLA_BAD_RECORD, with nothing written, where the record is not 290 bytes. */
 uint32_t loughrella_record(uint8_t *record, size_t record_len, uint8_t ready, uint8_t read_only);
 
+/* Gives the alternate of a block back, as after a term: the block's data goes from the alternate to the block's own place, the
+ * alternate is filled with zeros, and its entry of the map becomes unused, so that a later format may take it. Every block shows
+ * to a READ what it showed before. An alternate that is defective is no block's, and is never given back.
+ *
+ * store, alternates, record
+ *          as above. Of the store the block's own place and the alternate are written, of the record the alternate's entry of the
+ *          map; all other bytes stay. It is not a command: whether the unit is ready or read-only is not looked at, and sense and
+ *          counts stay.
+ * block    the number of a block of the device, from 0.
+ *
+ * Returns 0; or 256 times a cause, with no byte changed: 2, 6 or 8, as loughrella_run gives them, then LOUGHRELLA_BEYOND_DEVICE,
+ * then LOUGHRELLA_NOT_MAPPED; the first of them that holds.
+ *
+ * It costs a copy of one block and one block of zeros, whatever the device.
+ */
+uint32_t loughrella_give_back(uint8_t *store, size_t store_len, uint32_t alternates, uint8_t *record, size_t record_len,
+                              uint32_t block);
+
 /* The two parts of what is returned: the cause; and, by loughrella_run, the number of answers. */
 #define LOUGHRELLA_CAUSE(result) ((result) / 256u)
 #define LOUGHRELLA_REACHED(result) ((result) % 256u)
@@ -224,7 +243,11 @@ enum loughrella_cause {
     LOUGHRELLA_NO_LOCATE = 41,          /* READ or WRITE not directly after an accepted LOCATE */
     LOUGHRELLA_OTHER_DIRECTION = 42,    /* READ after a LOCATE that writes, WRITE after one that reads, either after a format */
     LOUGHRELLA_UNKNOWN_COMMAND = 43,    /* not a command of this unit */
-    LOUGHRELLA_NOT_READY = 44           /* the unit is not ready */
+    LOUGHRELLA_NOT_READY = 44,          /* the unit is not ready */
+
+    /* no alternate was given back: nothing was written. Tested after 2, 6 and 8 */
+    LOUGHRELLA_BEYOND_DEVICE = 50, /* the block is none of the device's primary blocks */
+    LOUGHRELLA_NOT_MAPPED = 51     /* the block lies at its own place */
 };
 
 #ifdef __cplusplus

@@ -183,6 +183,12 @@ static struct mapped *mapped_from(const struct run *r, uint32_t block)
 
 static uint8_t *block_at(const struct run *r, uint32_t place) { return r->store + (size_t)BLOCK * place; }
 
+// The entry of the map that names a mapped block.
+static uint8_t *entry_of(const struct run *r, const struct mapped *m)
+{
+    return r->record + MAP + ENTRY_SIZE * (m->place - r->primaries);
+}
+
 // Takes from the front the blocks that lie in a row in the store: all up to the next mapped one; or that one, and those behind it
 // whose alternates follow its own.
 static struct part take_row(const struct run *r, struct blocks *b)
@@ -245,7 +251,7 @@ static bool format(struct run *r, uint32_t block)
     put32(map + ENTRY_SIZE * unused, block + 1);
     struct mapped *m = mapped_from(r, block);
     if (m->block == block) {
-        put32(map + ENTRY_SIZE * (m->place - r->primaries), DEFECTIVE);
+        put32(entry_of(r, m), DEFECTIVE);
         m->place = r->primaries + unused;
     } else {
         add_mapped(r, block, unused);
@@ -505,12 +511,21 @@ static bool chain_ends(const uint8_t *chain, size_t chain_len)
     return false;
 }
 
+// Whether a store of this length, with so many alternates, is a device: else cause 2.
+static bool is_device(size_t store_len, uint32_t alternates)
+{
+    if (store_len % BLOCK != 0 || store_len / BLOCK > MAX_BLOCKS) return false;
+    if (alternates > MAX_ALTERNATES || alternates >= store_len / BLOCK) return false; // there is a primary
+    return true;
+}
+
+static uint32_t primaries_of(size_t store_len, uint32_t alternates) { return (uint32_t)(store_len / BLOCK) - alternates; }
+
 static uint32_t call_cause(const uint8_t *chain, size_t chain_len, size_t storage_len, size_t store_len,
                            uint32_t alternates, size_t record_len, size_t answers_len)
 {
     if (chain_len == 0 || chain_len > MAX_CHAIN || chain_len % CCW_SIZE != 0) return 1;
-    if (store_len % BLOCK != 0 || store_len / BLOCK > MAX_BLOCKS) return 2;
-    if (alternates > MAX_ALTERNATES || alternates >= store_len / BLOCK) return 2; // there is a primary
+    if (!is_device(store_len, alternates)) return 2;
     if (storage_len > MAX_STORAGE) return 3;
     if (answers_len < chain_len) return 4;
     if (!chain_ends(chain, chain_len)) return 5;
@@ -549,7 +564,7 @@ uint32_t second_run(const uint8_t *chain, size_t chain_len, uint8_t *storage, si
     if (cause != 0) return 256 * cause;
     struct mapped mapped[MAX_ALTERNATES + 1];
     struct run r = {.storage = storage, .store = store, .record = record, .answer = answers, .storage_len = storage_len,
-                    .mapped = mapped, .primaries = (uint32_t)(store_len / BLOCK) - alternates, .alternates = alternates};
+                    .mapped = mapped, .primaries = primaries_of(store_len, alternates), .alternates = alternates};
     if (!list_mapped(&r)) return 256 * 8;
     struct command c;
     for (const uint8_t *ccw = chain; run_command(&r, &c, ccw); ccw = c.next) r.before = c.code;
@@ -598,5 +613,24 @@ uint32_t second_record(uint8_t *record, size_t record_len, uint8_t ready, uint8_
     memset(record, 0, RECORD_SIZE);
     record[READY] = ready;
     record[READ_ONLY] = read_only;
+    return 0;
+}
+
+// No command: the unit's state is not looked at, and sense and counts stay.
+uint32_t second_give_back(uint8_t *store, size_t store_len, uint32_t alternates, uint8_t *record, size_t record_len,
+                          uint32_t block)
+{
+    if (!is_device(store_len, alternates)) return 256 * 2;
+    if (record_len != RECORD_SIZE) return 256 * 6;
+    struct mapped mapped[MAX_ALTERNATES + 1];
+    struct run r = {.store = store, .record = record, .mapped = mapped, .primaries = primaries_of(store_len, alternates),
+                    .alternates = alternates};
+    if (!list_mapped(&r)) return 256 * 8;
+    if (block >= r.primaries) return 256 * 50;
+    const struct mapped *m = mapped_from(&r, block);
+    if (m->block != block) return 256 * 51;
+    memcpy(block_at(&r, block), block_at(&r, m->place), BLOCK);
+    memset(block_at(&r, m->place), 0, BLOCK);
+    put32(entry_of(&r, m), UNUSED);
     return 0;
 }

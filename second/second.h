@@ -1,4 +1,4 @@
-// The second program: document 01 as docs/MISMATCHES.md settles it, with asks 1 to 4 of document 02, written afresh in C.
+// The second program: document 01 as docs/MISMATCHES.md settles it, with asks 1 to 4 and 6 of document 02, written afresh in C.
 #ifndef SECOND_H
 #define SECOND_H
 
@@ -25,6 +25,11 @@ uint32_t second_run_class(const uint8_t *chains, size_t chains_len, uint8_t *sto
 
 // Sets up a unit record: sense and counts zero, the map empty. Returns 0, or 256 times 6 with nothing written.
 uint32_t second_record(uint8_t *record, size_t record_len, uint8_t ready, uint8_t read_only);
+
+// Gives a block's alternate back (02, ask 6): its data goes to the primary, the alternate gets zeros and is unused. Returns 0, or
+// 256 times 2, 6, 8, 50 (a block beyond the device) or 51 (one that is not mapped), the first that holds, with nothing written.
+uint32_t second_give_back(uint8_t *store, size_t store_len, uint32_t alternates, uint8_t *record, size_t record_len,
+                          uint32_t block);
 
 #ifdef __cplusplus
 }

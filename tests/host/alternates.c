@@ -10,7 +10,6 @@
 #include "loughrella.h"
 
 #define ONE_MOVEMENT LOG("000000", "000000", "0001")
-#define EXHAUSTED(locate) "80 01 00000000 00 0C " locate // R5: message C, and the LOCATE's eight bytes
 
 // Blocks 2 to 5, read to, or written from, 20 on.
 #define READ_4 DEVICE "06000004 00000002 8*DD 2048*DD"
@@ -48,6 +47,20 @@ static const struct limit {
     {"2, 131,072 primaries and 64 alternates", 131136, 64, 0x200},
 };
 
+static bool is_so(const char *what, uint32_t result, uint32_t expected)
+{
+    if (result != expected) printf("  result of %s %lX, not %lX\n", what, (unsigned long)result, (unsigned long)expected);
+    return result == expected;
+}
+
+// Whether the call comes out so; and a give back behind it, of no block, by the same 2 or 8, else by 50 (02, ask 6).
+static bool comes_out(const struct buffers *library, const struct buffers *twin, uint32_t expected)
+{
+    uint32_t given = expected == 0x200 || expected == 0x800 ? expected : 0x3200;
+    return is_so("the call", call_library(library), expected) && buffers_equal(library, twin) &&
+           is_so("a give back", call_library_give_back(library, 0xFFFFFFFF), given) && buffers_equal(library, twin);
+}
+
 // NO-OPERATION where it should be accepted; where it should not, a SENSE, which would write to main storage, record and answers.
 static bool call_gives(const size_t length[BUFFERS], uint32_t alternates, const uint8_t *map, uint32_t expected, bool at_end)
 {
@@ -59,9 +72,7 @@ static bool call_gives(const size_t length[BUFFERS], uint32_t alternates, const 
     if (map != NULL) memcpy(library.at[RECORD] + MAP_AT, map, MAP_SIZE);
     buffers_copy(&library, &twin);
     if (expected == 1) text_bytes(twin.at[ANSWERS], 8, NOP_DONE);
-    uint32_t result = call_library(&library);
-    if (result != expected) printf("  result %lX, not %lX\n", (unsigned long)result, (unsigned long)expected);
-    return buffers_equal(&library, &twin) && result == expected;
+    return comes_out(&library, &twin, expected);
 }
 
 static bool limit_holds(const struct limit *l)
@@ -230,7 +241,7 @@ static bool largest_device(void)
 
 static bool header_names(void)
 {
-    return LOUGHRELLA_VERSION == 5 && LOUGHRELLA_RECORD_SIZE == 290 && LOUGHRELLA_MAX_ALTERNATES == 64 && LOUGHRELLA_MAP_AT == 34 &&
+    return LOUGHRELLA_VERSION == 6 && LOUGHRELLA_RECORD_SIZE == 290 && LOUGHRELLA_MAX_ALTERNATES == 64 && LOUGHRELLA_MAP_AT == 34 &&
            LOUGHRELLA_ENTRY_SIZE == 4 && LOUGHRELLA_UNUSED == 0 && LOUGHRELLA_DEFECTIVE == 0xFFFFFFFF && LOUGHRELLA_BAD_MAP == 8 &&
            LOUGHRELLA_MAP_AT + LOUGHRELLA_MAX_ALTERNATES * LOUGHRELLA_ENTRY_SIZE == LOUGHRELLA_RECORD_SIZE;
 }

@@ -113,18 +113,29 @@ bool buffers_equal(const struct buffers *library, const struct buffers *twin)
     return true;
 }
 
-// What a chain and a class are run by: both have the same arguments.
+// What a chain and a class are run by: both have the same arguments. And what gives an alternate back.
 typedef uint32_t run_function(const uint8_t *chain, size_t chain_len, uint8_t *storage, size_t storage_len, uint8_t *store,
                               size_t store_len, uint32_t alternates, uint8_t *record, size_t record_len, uint8_t *answers,
                               size_t answers_len);
+typedef uint32_t give_back_function(uint8_t *store, size_t store_len, uint32_t alternates, uint8_t *record, size_t record_len,
+                                    uint32_t block);
 
-static uint32_t call(run_function *run, const struct buffers *b)
+// Which of them is called on the buffers.
+struct target {
+    run_function *run;
+    give_back_function *give_back; // of this block; NULL: a run
+    uint32_t block;
+};
+
+static uint32_t call(struct target t, const struct buffers *b)
 {
-    return run(b->at[CHAIN], b->length[CHAIN], b->at[STORAGE], b->length[STORAGE], b->at[STORE], b->length[STORE],
-               b->alternates, b->at[RECORD], b->length[RECORD], b->at[ANSWERS], b->length[ANSWERS]);
+    if (t.give_back != NULL)
+        return t.give_back(b->at[STORE], b->length[STORE], b->alternates, b->at[RECORD], b->length[RECORD], t.block);
+    return t.run(b->at[CHAIN], b->length[CHAIN], b->at[STORAGE], b->length[STORAGE], b->at[STORE], b->length[STORE],
+                 b->alternates, b->at[RECORD], b->length[RECORD], b->at[ANSWERS], b->length[ANSWERS]);
 }
 
-static uint32_t call_guarded(run_function *run, const struct buffers *b)
+static uint32_t call_guarded(struct target t, const struct buffers *b)
 {
     int signal = sigsetjmp(after_fault, 1);
     if (signal != 0) {
@@ -133,15 +144,25 @@ static uint32_t call_guarded(run_function *run, const struct buffers *b)
         return FAULT;
     }
     calling = 1;
-    uint32_t result = call(run, b);
+    uint32_t result = call(t, b);
     calling = 0;
     return result;
 }
 
-uint32_t call_library(const struct buffers *b) { return call_guarded(loughrella_run, b); }
-uint32_t call_library_class(const struct buffers *b) { return call_guarded(loughrella_run_class, b); }
-uint32_t call_second(const struct buffers *b) { return call(second_run, b); }
-uint32_t call_second_class(const struct buffers *b) { return call(second_run_class, b); }
+uint32_t call_library(const struct buffers *b) { return call_guarded((struct target){.run = loughrella_run}, b); }
+uint32_t call_library_class(const struct buffers *b) { return call_guarded((struct target){.run = loughrella_run_class}, b); }
+uint32_t call_second(const struct buffers *b) { return call((struct target){.run = second_run}, b); }
+uint32_t call_second_class(const struct buffers *b) { return call((struct target){.run = second_run_class}, b); }
+
+uint32_t call_library_give_back(const struct buffers *b, uint32_t block)
+{
+    return call_guarded((struct target){.give_back = loughrella_give_back, .block = block}, b);
+}
+
+uint32_t call_second_give_back(const struct buffers *b, uint32_t block)
+{
+    return call((struct target){.give_back = second_give_back, .block = block}, b);
+}
 
 uint32_t call_library_record(uint8_t *record, size_t length, uint8_t ready, uint8_t read_only)
 {

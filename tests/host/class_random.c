@@ -7,7 +7,6 @@
 
 #include "loughrella.h"
 
-#define BATCH 1000u
 #define MOST_CHAINS 200u
 #define CAUSES 9
 
@@ -44,8 +43,6 @@ struct plan {
     struct device device;
     enum damage damage;
 };
-
-static bool percent(struct random *r, uint32_t chance) { return random_below(r, 100) < chance; }
 
 static uint32_t some_length(struct random *r)
 {
@@ -234,9 +231,11 @@ static bool map_is_kept(struct tally *t, const uint8_t *before, const struct buf
 }
 
 // One class. Of two, one is compared with the second program and one with the library's own calls.
-static bool agree(struct random *r, struct tally *t, bool by_itself)
+static bool agree(struct random *r, uint32_t i, void *tally)
 {
     static struct plan p;
+    struct tally *t = tally;
+    bool by_itself = i % 2 == 1;
     struct buffers library, twin;
     uint8_t map[MAP_SIZE] = {0};
     plan_class(r, &p);
@@ -276,15 +275,8 @@ void test_class_random(uint32_t classes, uint64_t seed)
 {
     struct tally t;
     memset(&t, 0, sizeof t);
-    bool same = true;
-    uint32_t i = 0;
-    for (; i < classes && same; i++) {
-        struct random r = {seed ^ (uint64_t)(i + 1) * 0xA24BAED4963EE407u};
-        same = agree(&r, &t, i % 2 == 1);
-        if (!same) printf("  class %lu of seed %llu\n", (unsigned long)i, (unsigned long long)seed);
-        if (!same || i % BATCH == BATCH - 1 || i == classes - 1) check("classes", "a batch agrees", same);
-    }
-    printf("classes: %lu, chains run: %lu\n", (unsigned long)i, t.chains);
-    if (!same || classes == 0) return;
-    check("classes", "every kind was met often enough", print_tally(&t, classes));
+    struct row row = {"classes", "a batch agrees", "class", classes, 1000, 0, seed, 0xA24BAED4963EE407u, agree, 0};
+    bool same = check_row(&row, &t);
+    printf("classes: %lu, chains run: %lu\n", (unsigned long)row.run, t.chains);
+    if (same && classes > 0) check("classes", "every kind was met often enough", print_tally(&t, classes));
 }

@@ -34,9 +34,10 @@ uint64_t random_next(struct random *r) // splitmix64
 
 uint32_t random_below(struct random *r, uint32_t limit) { return (uint32_t)((random_next(r) >> 32) * limit >> 32); }
 
-static bool percent(struct random *r, uint32_t chance) { return random_below(r, 100) < chance; }
+bool percent(struct random *r, uint32_t chance) { return random_below(r, 100) < chance; }
+uint32_t between(struct random *r, uint32_t low, uint32_t high) { return low + random_below(r, high - low + 1); }
+
 static bool mishap(const struct maker *m, uint32_t chance) { return !m->careful && percent(m->r, chance); }
-static uint32_t between(struct random *r, uint32_t low, uint32_t high) { return low + random_below(r, high - low + 1); }
 
 void random_fill(struct random *r, uint8_t *to, size_t length)
 {

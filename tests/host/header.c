@@ -32,6 +32,23 @@ static int class_is_right(void)
     return result == 256 * LOUGHRELLA_BAD_CLASS;
 }
 
+/* Block 1 of a device of 7 is at its only alternate, and goes back; a second time there is nothing to give. */
+static int give_back_is_right(void)
+{
+    uint8_t *alternate = store + 7 * LOUGHRELLA_BLOCK_SIZE, *entry = record + LOUGHRELLA_MAP_AT;
+
+    loughrella_record(record, sizeof record, 1, 0);
+    alternate[0] = 0x97;
+    entry[3] = 1 + 1;
+    uint32_t result = loughrella_give_back(store, sizeof store, 1, record, sizeof record, 7);
+    if (result != 256 * LOUGHRELLA_BEYOND_DEVICE || entry[3] != 1 + 1) return 0;
+    result = loughrella_give_back(store, sizeof store, 1, record, sizeof record, 1);
+    if (result != LOUGHRELLA_ACCEPTED || store[LOUGHRELLA_BLOCK_SIZE] != 0x97 || alternate[0] != 0) return 0;
+    result = loughrella_give_back(store, sizeof store, 1, record, sizeof record, 1);
+    printf("cause %u\n", (unsigned)LOUGHRELLA_CAUSE(result));
+    return result == 256 * LOUGHRELLA_NOT_MAPPED && entry[3] == LOUGHRELLA_UNUSED;
+}
+
 int main(void)
 {
     uint8_t answers[16];
@@ -40,6 +57,6 @@ int main(void)
     uint32_t result = loughrella_run(chain, sizeof chain, storage, sizeof storage, store, sizeof store, 0, record, sizeof record,
                                      answers, sizeof answers);
     printf("cause %u, %u commands\n", (unsigned)LOUGHRELLA_CAUSE(result), (unsigned)LOUGHRELLA_REACHED(result));
-    if (result != 2 || memcmp(answers, expected, sizeof answers) != 0 || !class_is_right()) return 1;
+    if (result != 2 || memcmp(answers, expected, sizeof answers) != 0 || !class_is_right() || !give_back_is_right()) return 1;
     return loughrella_record(record, sizeof record - 1, 1, 0) == 256 * LOUGHRELLA_BAD_RECORD ? 0 : 1;
 }

@@ -1,5 +1,5 @@
 // The host test: calls the library under test and counts what passed.
-//   host_test [chains [seed]]     random chains, and a tenth as many random classes
+//   host_test [chains [seed]]     random chains, a tenth as many random classes, and a hundredth as many random histories
 #include "test.h"
 
 #include <stdio.h>
@@ -17,6 +17,21 @@ void check(const char *part, const char *name, bool holds)
     }
 }
 
+bool check_row(struct row *row, void *tally)
+{
+    bool same = true;
+    for (uint32_t i = 0; i < row->count && same; i++) {
+        struct random r = {row->seed ^ (uint64_t)(i + 1) * row->salt};
+        same = row->holds(&r, i, tally);
+        row->run = i + 1;
+        if (!same) printf("  %s %lu of seed %llu\n", row->what, (unsigned long)i, (unsigned long long)row->seed);
+        if (!same || i % row->batch == row->batch - 1 || i == row->count - 1) check(row->part, row->name, same);
+        if (row->shown > 0 && i % row->shown == row->shown - 1)
+            fprintf(stderr, "host: %lu of %lu random %ss\n", (unsigned long)i + 1, (unsigned long)row->count, row->what);
+    }
+    return same;
+}
+
 int main(int argc, char **argv)
 {
     uint32_t chains = argc > 1 ? (uint32_t)strtoul(argv[1], NULL, 10) : 200000;
@@ -28,7 +43,9 @@ int main(int argc, char **argv)
     test_calls();
     test_alternates();
     test_class();
+    test_give_back();
     test_bounds(seed);
+    test_histories(chains / 100, seed);
     test_class_random(chains / 10, seed);
     test_random(chains, seed);
     printf("%u passed, %u failed\n", passed, failed);

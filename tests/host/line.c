@@ -57,12 +57,13 @@ static void build_before(const struct line *line, const struct buffers *b)
 {
     text_bytes(b->at[CHAIN], b->length[CHAIN], line->chain);
     text_bytes(b->at[STORAGE], b->length[STORAGE], line->storage);
+    memset(b->at[ANSWERS], FRESH, b->length[ANSWERS]);
+    if (line->goes_on) return;
     for (size_t i = 0; i < b->length[STORE]; i++) b->at[STORE][i] = (uint8_t)(i / BLOCK);
     apply(b->at[STORE], b->length[STORE], line->store_before, 2);
     memset(b->at[RECORD], 0, RECORD_SIZE);
     text_bytes(b->at[RECORD], MAP_AT, line->record != NULL ? line->record : ready_record);
     if (line->map != NULL) text_bytes(b->at[RECORD] + MAP_AT, MAP_SIZE, line->map);
-    memset(b->at[ANSWERS], FRESH, b->length[ANSWERS]);
 }
 
 // Turns the copy of what was there before into what should be there after.
@@ -97,7 +98,7 @@ static bool call_holds(const struct line *line, uint32_t (*call)(const struct bu
     build_before(line, &library);
     buffers_copy(&library, &twin);
     build_after(line, &twin);
-    uint32_t result = call(&library);
+    uint32_t result = line->gives_back ? call_library_give_back(&library, line->block) : call(&library);
     if (result != expected) printf("  result %lu, not %lu\n", (unsigned long)result, (unsigned long)expected);
     return buffers_equal(&library, &twin) && result == expected;
 }
@@ -107,7 +108,8 @@ static bool line_holds_at(const struct line *line, bool at_end)
     size_t length[BUFFERS];
     line_lengths(line, length);
     length[ANSWERS] = length[CHAIN] + BEYOND;
-    return call_holds(line, call_library, length, (uint32_t)(text_bytes(NULL, MAX_CHAIN, line->answers) / 8), at_end);
+    uint32_t expected = line->gives_back ? 256 * line->cause : (uint32_t)(text_bytes(NULL, MAX_CHAIN, line->answers) / 8);
+    return call_holds(line, call_library, length, expected, at_end);
 }
 
 bool line_holds(const struct line *line) { return line_holds_at(line, true) && line_holds_at(line, false); }
@@ -122,13 +124,21 @@ static bool class_holds_with(const struct line *line, size_t beyond)
 
 bool class_holds(const struct line *line) { return class_holds_with(line, 0) && class_holds_with(line, BEYOND); }
 
+static void check_line(const char *part, const struct line *line, bool holds)
+{
+    if (!holds) printf("  why: %s\n", line->why);
+    check(part, line->name, holds);
+}
+
 static void check_each(const char *part, const struct line *lines, size_t count, bool (*holds_as)(const struct line *))
 {
-    for (size_t i = 0; i < count; i++) {
-        bool holds = holds_as(&lines[i]);
-        if (!holds) printf("  why: %s\n", lines[i].why);
-        check(part, lines[i].name, holds);
-    }
+    for (size_t i = 0; i < count; i++) check_line(part, &lines[i], holds_as(&lines[i]));
+}
+
+void check_story(const char *part, const struct line *lines, size_t count)
+{
+    for (size_t i = 0; i < count; i++) check_line(part, &lines[i], line_holds_at(&lines[i], true));
+    for (size_t i = 0; i < count; i++) check_line(part, &lines[i], line_holds_at(&lines[i], false));
 }
 
 void check_lines(const char *part, const struct line *lines, size_t count) { check_each(part, lines, count, line_holds); }

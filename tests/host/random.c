@@ -5,8 +5,6 @@
 #include <stdio.h>
 #include <string.h>
 
-#define BATCH 10000u
-#define SHOWN 40000u // after so many chains it is said how far it is
 #define LARGE 100u // this many inputs, or nearly, have large buffers
 #define CAUSES 45
 #define WORDS 32
@@ -55,6 +53,7 @@ static const uint8_t expected_causes[] = {1,  2,  3,  4,  5,  6,  8,  10, 11, 12
 struct tally {
     unsigned long causes[CAUSES], accepted[256], kinds[KINDS], reached;
     unsigned long split_causes[CAUSES], split_accepted[256]; // of commands in pieces
+    uint32_t every;                                          // one input in so many is large
 };
 
 // What must be kept of an input, because a run changes it.
@@ -444,19 +443,20 @@ static bool look_at(struct tally *t, const struct buffers *b, const struct befor
 }
 
 // Runs both on one input. Prints the input if they differ.
-static bool agree(struct random *r, struct tally *t, uint32_t large)
+static bool agree(struct random *r, uint32_t i, void *tally)
 {
+    struct tally *t = tally;
     struct buffers library, twin;
     static struct before kept;
-    generate(r, &library, &twin, large);
+    generate(r, &library, &twin, i % t->every == t->every - 1 ? i / t->every + 1 : 0);
     keep(&library, &kept);
     uint32_t wanted = call_second(&twin), result = call_library(&library);
     if (result == wanted && buffers_equal(&library, &twin) && look_at(t, &library, &kept, wanted)) return true;
     if (result != wanted) printf("  result %lu, not %lu\n", (unsigned long)result, (unsigned long)wanted);
     print_input(&twin, kept.record);
-    for (size_t i = 0; i < WORDS && 8 * i + 8 <= twin.length[CHAIN]; i++) {
-        printf("  storage before, at word %zu's address:", i + 1);
-        for (int k = 0; k < 16; k++) printf(" %02X", kept.parameters[i][k]);
+    for (size_t n = 0; n < WORDS && 8 * n + 8 <= twin.length[CHAIN]; n++) {
+        printf("  storage before, at word %zu's address:", n + 1);
+        for (int k = 0; k < 16; k++) printf(" %02X", kept.parameters[n][k]);
         printf("\n");
     }
     return false;
@@ -497,21 +497,14 @@ static bool print_kinds(const struct tally *t)
 
 void test_random(uint32_t chains, uint64_t seed)
 {
+    static const char name[] = "a batch agrees with the second program, and keeps what it should";
     struct tally t;
     memset(&t, 0, sizeof t);
-    bool same = true;
-    uint32_t i = 0;
-    uint32_t every = chains / LARGE + 1; // one input in so many is large
+    t.every = chains / LARGE + 1;
+    struct row row = {"random", name, "chain", chains, 10000, 40000, seed, 0xD1342543DE82EF95u, agree, 0};
     generate_large_contents(&(struct random){seed});
-    for (; i < chains && same; i++) {
-        struct random r = {seed ^ (uint64_t)(i + 1) * 0xD1342543DE82EF95u};
-        same = agree(&r, &t, i % every == every - 1 ? i / every + 1 : 0);
-        if (!same) printf("  chain %lu of seed %llu\n", (unsigned long)i, (unsigned long long)seed);
-        if (!same || i % BATCH == BATCH - 1 || i == chains - 1)
-            check("random", "a batch agrees with the second program, and keeps what it should", same);
-        if (i % SHOWN == SHOWN - 1) fprintf(stderr, "host: %lu of %lu random chains\n", (unsigned long)i + 1, (unsigned long)chains);
-    }
-    printf("chains: %lu, commands reached: %lu\n", (unsigned long)i, t.reached);
+    bool same = check_row(&row, &t);
+    printf("chains: %lu, commands reached: %lu\n", (unsigned long)row.run, t.reached);
     if (!same || chains == 0) return;
     check("random", "every cause was met", print_causes("cause", t.causes, 1));
     check("random", "every command was accepted", print_commands("accepted", t.accepted));

@@ -20,6 +20,19 @@
 // ---- Checks (host_test.c). A failed check prints its part and name.
 void check(const char *part, const char *name, bool passed);
 
+// Random inputs in a row, each with random numbers of its own. The first that does not hold ends it; each batch is a check. Tells
+// whether all held.
+struct random;
+struct row {
+    const char *part, *name, *what; // of the checks; and what an input is
+    uint32_t count, batch;
+    uint32_t shown; // after so many it is said how far it is; 0: not at all
+    uint64_t seed, salt;
+    bool (*holds)(struct random *r, uint32_t i, void *tally);
+    uint32_t run; // how many were
+};
+bool check_row(struct row *row, void *tally);
+
 // ---- Buffers (buffers.c). Each of the five has an area between two pages that fault when touched, and the
 // area has a twin for the second program (or for a copy of what was there before).
 enum { CHAIN, STORAGE, STORE, RECORD, ANSWERS, BUFFERS };
@@ -52,6 +65,8 @@ uint32_t call_library(const struct buffers *b);
 uint32_t call_library_class(const struct buffers *b);
 uint32_t call_second(const struct buffers *b);
 uint32_t call_second_class(const struct buffers *b);
+uint32_t call_library_give_back(const struct buffers *b, uint32_t block); // of the five buffers, the store and the record alone
+uint32_t call_second_give_back(const struct buffers *b, uint32_t block);
 uint32_t call_library_record(uint8_t *record, size_t length, uint8_t ready, uint8_t read_only);
 struct loughrella_walk;
 int call_next_result(struct loughrella_walk *at); // the header's walk; -1 where it faults
@@ -78,6 +93,9 @@ struct line {
     const char *log;                 // the eight bytes of counts after; NULL: all zero
     const char *map_after;           // zeros follow; NULL: as before
     struct change storage_after[4], store_after[4]; // all else stays
+    bool gives_back;                 // no chain is run: a block's alternate is given back
+    uint32_t block, cause;           // which block's, and the cause that is returned
+    bool goes_on;                    // store and record are as the line before it has left them
 };
 
 size_t text_bytes(uint8_t *to, size_t room, const char *text); // to may be NULL: the length alone
@@ -86,6 +104,9 @@ bool line_holds(const struct line *line);
 // A line that is a class: its chain is all the chains, each after its length; its answers are the results whole, EE where they
 // stay. They are lent exactly, and with more bytes than are needed.
 bool class_holds(const struct line *line);
+
+// A story's lines go on, all but its first. Both ways, against the rear guards and against the front ones, each line is checked.
+void check_story(const char *part, const struct line *lines, size_t count);
 void check_lines(const char *part, const struct line *lines, size_t count);
 void check_classes(const char *part, const struct line *lines, size_t count);
 
@@ -102,6 +123,8 @@ struct random {
 };
 uint64_t random_next(struct random *r);
 uint32_t random_below(struct random *r, uint32_t limit);
+uint32_t between(struct random *r, uint32_t low, uint32_t high); // both may come
+bool percent(struct random *r, uint32_t chance);                 // so often true
 void random_fill(struct random *r, uint8_t *to, size_t length);
 
 // A device as the author of chains believes it to be: what the map is made for, and what formats make of it.
@@ -136,5 +159,7 @@ void test_random(uint32_t chains, uint64_t seed);
 void test_bounds(uint64_t seed);
 void test_class(void);
 void test_class_random(uint32_t classes, uint64_t seed);
+void test_give_back(void);
+void test_histories(uint32_t histories, uint64_t seed);
 
 #endif

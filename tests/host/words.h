@@ -30,6 +30,7 @@
 #define SENSE_OUTSIDE "80 04 00000000 00 04"
 #define SENSE_INHIBITED "80 02 00000000 00 00"
 #define SENSE_NOT_READY "40 00 00000000 00 10"
+#define EXHAUSTED(locate) "80 01 00000000 00 0C " locate // R5: message C, and the LOCATE's eight bytes
 
 // The log in the record: blocks read, blocks written with check, access movements.
 #define LOG(read, checked, movements) read " " checked " " movements

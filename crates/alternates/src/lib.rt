@@ -1,6 +1,7 @@
-// The map of a device's alternates: whether one is used at all (`none_used`), whether the map is right (`map_wrong`), where blocks lie
-// (`places`), and what a format makes of it (`unused`, `format_block`). `alternates` and `primaries` are how many of them the device
-// has. Nothing here is refused: a caller proves that the map has its bytes, and that what it names is there.
+// The map of a device's alternates: whether one is used at all (`none_used`), whether the map is right (`map_wrong`, `entries_wrong`), where
+// blocks lie (`places`, `alternate_of`), and what a format (`unused`, `format_block`) and a return (`unmap`) make of it. `alternates` and
+// `primaries` are how many of them the device has. Nothing here is refused: a caller proves that the map has its bytes, and that what it
+// names is there.
 use model::sizes;
 ghost use mathlib.Core.Path.{_≡_};
 ghost use mathlib.Core.Bool.{false};
@@ -8,7 +9,7 @@ ghost use Prim.Native.Nat.{ℕ, _+_, _*_, _≤_, _<_};
 ghost use lib.ListN.{length, getD};
 ghost use Rattle.numbers.specs.Choice.{_=?_, pick};
 ghost use Rattle.numbers.specs.Lowest.{any};
-ghost use Rattle.model.specs.Alternates.{mapEntries, entrySize, mapSize, entryAt, withEntry, nameOf, lowestWith, unusedIn, flagged, formatted, badEntry, badMap};
+ghost use Rattle.model.specs.Alternates.{mapEntries, entrySize, mapSize, entryAt, withEntry, nameOf, lowestWith, alternateOf, unusedIn, flagged, formatted, unmapped, badEntry, badMap};
 ghost use Rattle.alternates.specs.Used.{noneUsed};
 ghost use Rattle.alternates.specs.Placed.{placesFrom};
 
@@ -84,8 +85,8 @@ fn entry_wrong(
     named_before(map, i, e)
 }
 
-// An entry of the map is wrong.
-fn entries_wrong(alternates: usize, primaries: usize, map: &[u8]) -> bool
+// An entry of the map is wrong: cause 8's rule, for a map that is in use.
+pub fn entries_wrong(alternates: usize, primaries: usize, map: &[u8]) -> bool
     requires { ⌜ length (now map) ≡ mapSize ⌝ }
     ensures { λ r. ⌜ r ≡ badMap (now (map .entry)) alternates primaries ⌝ }
 {
@@ -103,7 +104,7 @@ fn entries_wrong(alternates: usize, primaries: usize, map: &[u8]) -> bool
     false
 }
 
-// The map is wrong: cause 8's rule.
+// The map is wrong: cause 8's rule, for a map that is mostly empty.
 pub fn map_wrong(alternates: usize, primaries: usize, map: &[u8]) -> bool
     requires { ⌜ length (now map) ≡ mapSize ⌝ }
     ensures { λ r. ⌜ r ≡ badMap (now (map .entry)) alternates primaries ⌝ }
@@ -173,6 +174,14 @@ pub fn unused(alternates: usize, map: &[u8]) -> usize
     lowest_entry(map, alternates, UNUSED)
 }
 
+// The alternate where the block lies, or their number where it lies at its own place.
+pub fn alternate_of(alternates: usize, map: &[u8], block: usize) -> usize
+    requires { ⌜ (length (now map) ≡ mapSize) × (alternates ≤ mapEntries) × (block < 131072) ⌝ }
+    ensures { λ r. ⌜ r ≡ alternateOf (now (map .entry)) alternates block ⌝ }
+{
+    lowest_entry(map, alternates, block + 1)
+}
+
 // Entry i is e now.
 fn put_entry(map: &mut [u8], i: usize, e: usize)
     requires { ⌜ (length (now map) ≡ mapSize) × (i < mapEntries) ⌝ }
@@ -187,7 +196,7 @@ fn flag_old(alternates: usize, map: &mut [u8], block: usize)
     requires { ⌜ (length (now map) ≡ mapSize) × (alternates ≤ mapEntries) × (block < 131072) ⌝ }
     ensures { λ _. ⌜ now (map .exit) ≡ flagged (now (map .entry)) alternates block ⌝ }
 {
-    let old = lowest_entry(map, alternates, block + 1);
+    let old = alternate_of(alternates, map, block);
     if old < alternates {
         put_entry(map, old, DEFECTIVE);
     }
@@ -201,4 +210,13 @@ pub fn format_block(alternates: usize, map: &mut [u8], block: usize)
     let taken = unused(alternates, map);
     flag_old(alternates, map, block);
     put_entry(map, taken, block + 1);
+}
+
+// The map once the alternate of the block is given back: it is unused.
+pub fn unmap(alternates: usize, map: &mut [u8], block: usize)
+    requires { ⌜ (length (now map) ≡ mapSize) × (alternates ≤ mapEntries) × (alternateOf (now map) alternates block < alternates) × (block < 131072) ⌝ }
+    ensures { λ _. ⌜ now (map .exit) ≡ unmapped (now (map .entry)) alternates block ⌝ }
+{
+    let freed = alternate_of(alternates, map, block);
+    put_entry(map, freed, UNUSED);
 }

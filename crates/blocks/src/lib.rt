@@ -1,12 +1,14 @@
-// The blocks of a device: how many there are, and those of a READ and of a WRITE. `read_blocks` and `store_blocks` are the ways in. Where
-// no alternate is in use, blocks lie one after another, and a transfer is one part of the store. Else it goes by windows of blocks:
-// `places` tells where each lies, and those that lie in a row are one part. Nothing here is refused: a caller proves that the
-// blocks are the device's, and the bytes in the data area.
+// The blocks of a device: how many there are, those of a READ and of a WRITE (`read_blocks`, `store_blocks`), and one that goes from its
+// alternate to its own place (`bring_home`). Where no alternate is in use, blocks lie one after another, and a transfer is one part of the
+// store. Else it goes by windows of blocks: `places` tells where each lies, and those that lie in a row are one part. Nothing here is
+// refused: a caller proves that the blocks are the device's, and the bytes in the data area.
+use alternates::alternate_of;
 use alternates::none_used;
 use alternates::places;
 use model::decoded::Area;
 use model::device::Device;
 use slices::clear;
+use slices::copy_within;
 use slices::least;
 use storage::deliver;
 use storage::fetch;
@@ -16,12 +18,13 @@ ghost use mathlib.Core.List.{List};
 ghost use Prim.Native.Nat.{ℕ, _+_, _*_, _≤_, _<_};
 ghost use lib.ListN.{length, getD, take};
 ghost use Rattle.slices.specs.Parts.{part, put, pad};
-ghost use Rattle.model.specs.Alternates.{mapSize};
+ghost use Rattle.model.specs.Alternates.{mapSize, alternateOf};
 ghost use Rattle.model.specs.Lent.{storeBlocks, blockCount, blocksFrom, blocksInto};
 ghost use Rattle.model.specs.Pieces.{bytesIn, scattered};
 ghost use Rattle.model.specs.Decoded.{areaOf};
 ghost use Rattle.model.specs.Commands.{begun};
-ghost use Rattle.model.specs.Safe.{Usable, InArea};
+ghost use Rattle.model.specs.GiveBack.{broughtHome};
+ghost use Rattle.model.specs.Safe.{Usable, Mounted, InArea};
 ghost use Rattle.storage.specs.Area.{Rest};
 ghost use Rattle.blocks.specs.Places.{Movable, RowMovable, AllMovable, PlacesOf, RowAt, noAlternate};
 
@@ -352,4 +355,16 @@ pub fn store_blocks(
         return;
     }
     store_mapped(d, store, map, block, blocks, chain, a, main, n);
+}
+
+// The data of a mapped block goes from its alternate to its own place, and zeros to the alternate.
+pub fn bring_home(d: Device, store: &mut [u8], map: &[u8], block: usize)
+    requires { ⌜ Mounted d (now store) (now map) × (block < blockCount d (now store)) × (alternateOf (now map) (d .alternates) block < d .alternates) ⌝ }
+    ensures { λ _. ⌜ now (store .exit) ≡ broughtHome d (now (map .entry)) (now (store .entry)) block ⌝ }
+{
+    let alternate = alternate_of(d.alternates, map, block);
+    let start = (block_count(d, store) + alternate) * d.block;
+    let end = start + d.block;
+    copy_within(store, start, block * d.block, d.block);
+    clear(&mut store[start..end]);
 }

@@ -1,5 +1,5 @@
 // The causes that refuse a call before any command: 1 to 5 (`lent_cause`) and 8 (`map_cause`). The way in is `call_cause`, which is 0 where
-// the chain may run; a call from C has cause 6 between the two.
+// the chain may run; a call from C has cause 6 between the two. `store_wrong` is cause 2's rule, also where no chain is run.
 ghost use mathlib.Core.Path.{_≡_};
 ghost use Prim.Native.Nat.{_/_, _≤_};
 ghost use lib.ListN.{length};
@@ -29,7 +29,7 @@ fn chain_wrong(len: usize) -> bool
 }
 
 // No block, a part of one, or more than 131,072; more than 64 alternates, or no primary.
-fn store_wrong(d: Device, store: &[u8]) -> bool
+pub fn store_wrong(d: Device, store: &[u8]) -> bool
     requires { ⌜ Usable d ⌝ }
     ensures { λ r. ⌜ r ≡ badStore d (now (store .entry)) ⌝ }
 {

@@ -1,9 +1,12 @@
 -- The call from C, from the run of the library.
+--     map-lent, map-whole
+--                      of 290 bytes of record the map is lent as those behind the first 34
+--     front-kept, map-behind, map-stored
+--                      once it is back, the record has the new map, and what stands before it stays
 --     first-found, six-found, none-found
 --                      the first of 1 to 6, by what the code looked at: one of 1 to 5, else the length of the record
 --     record-taken     the record stands in the first 34 bytes; new-stored   and one that is set up
 --     sized            none of them holds: none of 1 to 5 does, and there are 290 bytes of record
---     map-lent         and the map is lent as the bytes behind the first 34
 --     refused-sized, refused-map
 --                      one of them holds, or 8 does: refused, and nothing changed
 --     may-run          none does, and the call may run
@@ -15,7 +18,7 @@ use Prim.Native.Nat.{ℕ, _+_, _-_, _≤_}
 use mathlib.Core.Path.{_≡_, refl, sym, ap, _∙_}
 use mathlib.Core.Bool.{not}
 use mathlib.Core.List.{List, [], _∷_, _++_}
-use lib.ListN.{length, take, drop, length-drop}
+use lib.ListN.{length, take, drop, length-drop, take-append-drop}
 use lib.Seq.{take-take, take-all, take-at, length-take-le, getD-take}
 use native.Mathlib.Omega.{arith}
 use borrow.Author.Tests.{eq-eqb, ne-eqb, eqb-true, not-false}
@@ -27,13 +30,14 @@ use Rattle.slices.proofs.Laws.{rest-lent, rest-back, drop-take, pad-cleared}
 use Rattle.model.specs.declared.device.Device.{Device}
 use Rattle.model.specs.Rules.{_when_, firstOf}
 use Rattle.model.specs.Alternates.{mapSize}
-use Rattle.model.specs.Lent.{mapPlace, recordSize, unitBytes, recordOf, mapOf, newMap}
+use Rattle.model.specs.Lent.{mapPlace, recordSize, unitBytes, recordBytes, recordOf, mapOf, newMap}
 use Rattle.model.specs.Causes.{lentCauses, mapCauses, callCauses, hostCauses}
 use Rattle.model.specs.Chain.{Called, callOf}
 use Rattle.model.specs.Host.{resultOf, hosted, hostCallOf}
 use Rattle.model.proofs.Verdicts.{first-append, failed-upto, failed-all, none-given}
 use Rattle.model.proofs.Endings.{callable, call-reached}
 use Rattle.model.proofs.Refusals.{host-refused}
+use Rattle.model.proofs.Records.{record-front}
 use Rattle.model.proofs.Hosts.{host-verdict, host-is-call}
 use Rattle.unit_state.specs.declared.Left.{Left}
 use Rattle.unit_state.specs.Standing.{unitLeft}
@@ -61,6 +65,31 @@ new-stored unit front back e f b =
     let stored : front ++ drop mapPlace unit ≡ put unit 0 front = rw f in
     let padded : pad (length unit) front ≡ front ++ newMap = rw (e, f) (ap (λ (l : List ℕ). l ++ newMap) (take-all recordSize front (omega (arith, f)))) in
     pad-cleared unit front (front ++ drop mapPlace unit) back mapPlace f (omega (arith, e)) stored b ∙ padded
+
+-- the map as it is lent, and the record's bytes with the map that came back
+
+abbrev pub lent-map : List ℕ → List ℕ
+lent-map unit = midOf mapPlace (length unit - mapPlace) unit
+
+abbrev pub with-map : List ℕ → List ℕ → List ℕ
+with-map unit map = putMid mapPlace (length unit - mapPlace) unit map
+
+module _ (unit : List ℕ) (whole : length unit ≡ recordSize) where
+  pub map-lent : lent-map unit ≡ mapOf unit
+  unfolding mapOf part
+  map-lent = rest-lent unit mapPlace ∙ sym (take-all mapSize (drop mapPlace unit) (omega (arith, length-drop mapPlace unit, whole)))
+
+  pub map-whole : length (lent-map unit) ≡ mapSize
+  map-whole = ap length (rest-lent unit mapPlace) ∙ length-drop mapPlace unit ∙ omega (arith, whole)
+
+  pub front-kept : (map : List ℕ) → take mapPlace (with-map unit map) ≡ take mapPlace unit
+  front-kept map = take-at (take mapPlace unit) _ mapPlace (length-take-le mapPlace unit (omega (arith, whole)))
+
+  pub map-behind : (map : List ℕ) → drop mapPlace (with-map unit map) ≡ map
+  map-behind map = rest-back unit map mapPlace (omega (arith, whole))
+
+  pub map-stored : (map : List ℕ) → with-map unit map ≡ recordBytes (recordOf unit) map
+  map-stored map = sym (take-append-drop mapPlace (with-map unit map)) ∙ rw (front-kept map, map-behind map, record-front unit (omega (arith, whole)))
 
 module _ (dev : Device) (chain storage store unit answers : List ℕ) where
   abbrev lent : ℕ
@@ -108,46 +137,33 @@ module _ (dev : Device) (chain storage store unit answers : List ℕ) where
       → record { result = result; main = storage; store = store; unit = unit; answers = answers } ≡ hostCallOf dev chain storage store unit answers
   refused-sized cause result e n r = rw r (sym (host-refused dev chain storage store unit answers cause (refused-first cause e n) n))
 
-  -- the map as it is lent
+  -- none of them holds
   module _ (passed : sized-verdict ≡ 0) where
     abbrev map : List ℕ
-    map = midOf mapPlace (length unit - mapPlace) unit
+    map = lent-map unit
 
-    pub map-lent : map ≡ mapOf unit
-    unfolding mapOf part
-    map-lent = rest-lent unit mapPlace ∙ sym (take-all mapSize (drop mapPlace unit) (omega (arith, length-drop mapPlace unit, sized passed .1)))
-
-    pub map-whole : length map ≡ mapSize
-    map-whole = ap length (rest-lent unit mapPlace) ∙ length-drop mapPlace unit ∙ omega (arith, sized passed .1)
+    abbrev whole : length unit ≡ recordSize
+    whole = sized passed .1
 
     behind-six : firstOf (hostCauses dev chain storage store unit answers) ≡ map-verdict
     unfolding pick
-    behind-six = host-verdict dev chain storage store unit answers ∙ rw (sized passed .0, eq-eqb _ _ (sized passed .1))
+    behind-six = host-verdict dev chain storage store unit answers ∙ rw (sized passed .0, eq-eqb _ _ whole)
 
     pub refused-map : (cause : ℕ) → cause ≡ firstOf (mapCauses dev store map) → (cause ≡ 0 → ⊥)
         → record { result = resultOf cause 0; main = storage; store = store; unit = unit; answers = answers } ≡ hostCallOf dev chain storage store unit answers
-    refused-map cause e n = sym (host-refused dev chain storage store unit answers cause (behind-six ∙ sym (rw map-lent at e)) n)
+    refused-map cause e n = sym (host-refused dev chain storage store unit answers cause (behind-six ∙ sym (rw (map-lent unit whole) at e)) n)
 
     pub may-run : firstOf (mapCauses dev store map) ≡ 0 → firstOf (callCauses dev chain storage store map answers) ≡ 0
     unfolding callCauses lentCauses
     may-run e = first-append (lentCauses dev chain storage store answers) (mapCauses dev store map) refl ∙ pick-true _ _ _ (eq-eqb _ _ (sized passed .0)) ∙ e
 
-    -- what stands before the map stays while the chain runs
-    module _ (map′ : List ℕ) where
-      abbrev between : List ℕ
-      between = putMid mapPlace (length unit - mapPlace) unit map′
-
-      same-record : recordOf (take mapPlace between) ≡ recordOf unit
-      same-record = ap recordOf (take-at (take mapPlace unit) _ mapPlace (length-take-le mapPlace unit (omega (arith, sized passed .1)))) ∙ record-taken unit
-
-      map-behind : drop mapPlace between ≡ map′
-      map-behind = rest-back unit map′ mapPlace (omega (arith, sized passed .1))
-
-      pub ran-hosted : (l : Left) (reached : ℕ) (m s a packed : List ℕ)
-          → record { cause = 0; reached = reached; unit = unitLeft (recordOf unit) l; map = map′; main = m; store = s; answers = a } ≡ callOf dev chain storage store (recordOf unit) map answers
-          → packed ≡ unitBytes (unitLeft (recordOf (take mapPlace between)) l)
-          → record { result = resultOf 0 reached; main = m; store = s; unit = packed ++ drop mapPlace between; answers = a } ≡ hostCallOf dev chain storage store unit answers
-      ran-hosted l reached m s a packed h b = rw (b, same-record, map-behind, host-is-call dev chain storage store unit answers (sized passed .1), ← map-lent) (ap hosted h)
+    pub ran-hosted : (map′ : List ℕ) (l : Left) (reached : ℕ) (m s a packed : List ℕ)
+        → record { cause = 0; reached = reached; unit = unitLeft (recordOf unit) l; map = map′; main = m; store = s; answers = a } ≡ callOf dev chain storage store (recordOf unit) map answers
+        → packed ≡ unitBytes (unitLeft (recordOf (take mapPlace (with-map unit map′))) l)
+        → record { result = resultOf 0 reached; main = m; store = s; unit = packed ++ drop mapPlace (with-map unit map′); answers = a } ≡ hostCallOf dev chain storage store unit answers
+    ran-hosted map′ l reached m s a packed h b =
+        let same-record = ap recordOf (front-kept unit whole map′) ∙ record-taken unit in
+        rw (b, same-record, map-behind unit whole map′, host-is-call dev chain storage store unit answers whole, ← (map-lent unit whole)) (ap hosted h)
 
     pub few-hosted : (c : Called) → firstOf (callCauses dev chain storage store map answers) ≡ 0 → c ≡ callOf dev chain storage store (recordOf unit) map answers → c .reached ≤ 32
     few-hosted c e h = rw h (omega (arith, callable dev chain storage store map answers e .few, call-reached dev chain storage store (recordOf unit) map answers .1))

@@ -1,10 +1,13 @@
-// What C calls: a chain run, a class of chains run, and a unit record set up. include/loughrella.h says it to a C programmer. None
-// has a requires: any slices get the result, and are left with the bytes, that the definition says.
+// What C calls: a chain run, a class of chains run, a unit record set up, an alternate given back. include/loughrella.h says it to a C
+// programmer. None has a requires: any slices get the result, and are left with the bytes, that the definition says.
 pub mod class;
+pub mod give_back;
 pub mod host;
 
 use crate::class::class_wrong;
 use crate::class::mark_each;
+use crate::give_back::give_back;
+use crate::give_back::give_back_cause;
 use crate::host::host_cause;
 use crate::host::run_hosted;
 use chain::call::result_of;
@@ -16,6 +19,7 @@ use slices::clear;
 ghost use mathlib.Core.Path.{_≡_};
 ghost use Rattle.model.specs.Host.{hostCall, setUp};
 ghost use Rattle.model.specs.Class.{runClass};
+ghost use Rattle.model.specs.GiveBack.{giveBack};
 
 // The chain is run. 256 times the cause plus the commands reached.
 #[no_mangle]
@@ -76,5 +80,24 @@ pub extern "C" fn loughrella_record(unit: &mut [u8], ready: u8, read_only: u8) -
     }
     pack(new_record(ready, read_only), &mut unit[..sizes::RECORD]);
     clear(&mut unit[sizes::RECORD..]);
+    0
+}
+
+// The alternate of a block is given back. 0, or 256 times the cause.
+#[no_mangle]
+pub extern "C" fn loughrella_give_back(
+    store: &mut [u8],
+    alternates: u32,
+    unit: &mut [u8],
+    block: u32,
+) -> u32
+    ensures { λ r. ⌜ record { result = r; store = now (store .exit); unit = now (unit .exit) } ≡ giveBack alternates (now (store .entry)) (now (unit .entry)) block ⌝ }
+{
+    let device = Device::class_a(alternates);
+    let refusal = give_back_cause(device, store, unit, block as usize);
+    if refusal != 0 {
+        return result_of(refusal, 0);
+    }
+    give_back(device, store, &mut unit[sizes::RECORD..], block as usize);
     0
 }

@@ -78,7 +78,7 @@ pad-take n m bytes h =
     rw (take-take n m bytes h, e)
 
 -- the bytes of two places have none in common
-places-apart : (size own place k : ℕ) → k ≡ size → (own ≡ place → ⊥) → (place * size + size ≤ own * size) ⊎ (own * size + k ≤ place * size)
+pub places-apart : (size own place k : ℕ) → k ≡ size → (own ≡ place → ⊥) → (place * size + size ≤ own * size) ⊎ (own * size + k ≤ place * size)
 places-apart size own place k e n = elim (decLe own place) [
   | yes l ↦ let m : own + 1 ≤ place = omega (arith, l, n) in inr (omega (arith, e, mul-le-mul-right size m))
   | no l ↦ let m : place + 1 ≤ own = omega (arith, l) in inl (omega (arith, mul-le-mul-right size m))

@@ -3,6 +3,7 @@
 -- there is a line where both rules hold.
 --     corners         commands: 13, 10, 11, 12, 44, 43; 20 to 26; 30 to 39; 41, 42
 --     call-corners    the call from C: 1 to 6 and 8
+--     return-corners  an alternate given back: 2, 6, 8, 50 and 51
 --     storage-limit, store-limit
 --                     both sides of the two limits that no example can hold
 -- Assumes nothing.
@@ -16,9 +17,10 @@ use Rattle.model.specs.Rules.{Rule, firstOf}
 use Rattle.numbers.specs.Big.{bytes4}
 use Rattle.model.specs.Lent.{newRecord, newMap, recordBytes}
 use Rattle.model.specs.Pieces.{commandAt}
-use Rattle.model.specs.Causes.{callCauses, hostCauses, causesOf}
+use Rattle.model.specs.Causes.{callCauses, hostCauses, giveBackCauses, causesOf}
 use Rattle.model.specs.Chain.{System, system, start, classA}
 use Rattle.model.specs.Host.{hostCall}
+use Rattle.model.specs.GiveBack.{giveBack}
 use Rattle.model.specs.Reached.{found}
 use Rattle.model.proofs.Opened.{opened}
 use Rattle.model.proofs.Inputs.{Lent, theUnit, device, entries, ccw, extent, location, causeOf}
@@ -221,6 +223,40 @@ calls large =
 pub call-corners : (large : List ℕ) → length large ≡ 16777217 → map got-call (calls large) ≡ map wanted-call (calls large)
 unfolding opened
 call-corners large e = rw e refl
+
+-- an alternate given back, on a device of four blocks and three alternates: its store, a record's bytes, and the block
+
+pub record ReturnCorner : Type 0 where
+  pub store : List ℕ
+  pub unit : List ℕ
+  pub block : ℕ
+  pub hold : List ℕ
+
+abbrev got-return : ReturnCorner → List ℕ
+got-return c = giveBack 3 (c .store) (c .unit) (c .block) .result ∷ held (giveBackCauses (classA 3) (c .store) (c .unit) (c .block))
+
+abbrev wanted-return : ReturnCorner → List ℕ
+wanted-return c = 256 * first (c .hold) ∷ c .hold
+
+-- with these entries in the map
+abbrev returns : List ℕ → ℕ → List ℕ → ReturnCorner
+returns es block hold = record { store = blocks 7; unit = recordBytes (newRecord 1 0) (entries es); block = block; hold = hold }
+
+abbrev pub return-lines : List ReturnCorner
+return-lines =
+    record { store = []; unit = []; block = 0; hold = 2 ∷ 6 ∷ 50 ∷ 51 ∷ [] }
+    ∷ record { store = blocks 7; unit = recordBytes (newRecord 1 0) (entries (5 ∷ []) ++ (0 ∷ [])); block = 4; hold = 6 ∷ 8 ∷ 50 ∷ [] }
+    ∷ returns (5 ∷ []) 4 (8 ∷ 50 ∷ [])
+    ∷ returns (3 ∷ []) 4 (50 ∷ 51 ∷ [])
+    -- a block whose number plus 1 is the entry of a defective alternate
+    ∷ returns (DEFECTIVE ∷ 3 ∷ []) 0xFFFFFFFE (50 ∷ [])
+    ∷ returns (DEFECTIVE ∷ 3 ∷ []) 3 (51 ∷ [])
+    ∷ returns (DEFECTIVE ∷ 3 ∷ []) 2 []
+    ∷ []
+
+pub return-corners : map got-return return-lines ≡ map wanted-return return-lines
+unfolding opened
+return-corners = refl
 
 -- The two limits that no example can hold: 16,777,216 bytes of main storage, and 131,072 blocks. Any list of that length, and of one more.
 

@@ -1,9 +1,10 @@
 -- Demand 1, of endings: every chain ends, and how many answers it gives.
+--     right-store    what a store has where cause 2 is not given; callable   and a call, where none of its causes is
 --     call-reached   where the call's cause is 0, from one answer to as many as the chain has CCWs; else none
 -- Assumes nothing.
 use Prim.Native.Nat.{ℕ, zero, suc, _+_, _*_, _/_, _%_, _≤_, _<_, min}
 use mathlib.Core.Path.{_≡_, refl}
-use mathlib.Core.Bool.{Bool, false, not, _||_}
+use mathlib.Core.Bool.{false}
 use mathlib.Core.List.{List}
 use lib.ListN.{length}
 use native.Mathlib.Omega.{arith}
@@ -13,11 +14,10 @@ use Rattle.model.specs.declared.device.Device.{Device}
 use Rattle.model.specs.Rules.{firstOf}
 use Rattle.model.specs.Alternates.{mapEntries, badMap}
 use Rattle.model.specs.Lent.{ccwSize, storeBlocks, blockCount}
-use Rattle.model.specs.Causes.{lentCauses, mapCauses, callCauses}
+use Rattle.model.specs.Causes.{badStore, lentCauses, mapCauses, callCauses}
 use Rattle.model.specs.Pieces.{commandsIn}
 use Rattle.model.specs.Answer.{answered}
 use Rattle.model.specs.Chain.{System, system, stepAt, next, run, start, callOf}
-use Rattle.numbers.specs.Choice.{_<?_, _=?_}
 use Rattle.numbers.proofs.Choice.{pick-ind}
 use Rattle.numbers.proofs.Joined.{either-false}
 use Rattle.model.proofs.Verdicts.{failed-all}
@@ -40,13 +40,32 @@ pub record Callable (dev : Device) (chain main store map answers : List ℕ) : T
   pub closes : Closes chain 0
   pub right : badMap map (dev .alternates) (blockCount dev store) ≡ false
 
+-- what a store is known to have where cause 2 is not given
+pub record RightStore (dev : Device) (store : List ℕ) : Type 0 where
+  pub stored : length store ≡ 0 → ⊥
+  pub even : length store % dev .block ≡ 0
+  pub held : storeBlocks dev store ≤ 131072
+  pub few-alternates : dev .alternates ≤ mapEntries
+  pub some-primary : dev .alternates < storeBlocks dev store
+
+pub right-store : (dev : Device) (store : List ℕ) → badStore dev store ≡ false → RightStore dev store
+right-store dev store e =
+    let a = either-false _ _ e in
+    let b = either-false _ _ (a .0) in
+    let r = either-false _ _ (b .0) in
+    let t = either-false _ _ (r .0) in
+    record {
+      stored = eqb-false _ _ (t .0);
+      even = eqb-true _ _ (not-false _ (t .1));
+      held = ltb-false _ _ (r .1);
+      few-alternates = ltb-false _ _ (b .1);
+      some-primary = ltb-true _ _ (not-false _ (a .1));
+    }
+
 -- where none of 1 to 5 holds the store has a primary
 pub lent-primary : (dev : Device) (chain main store answers : List ℕ) → firstOf (lentCauses dev chain main store answers) ≡ 0 → dev .alternates < storeBlocks dev store
 unfolding lentCauses
-lent-primary dev chain main store answers e =
-    let f = failed-all 0 (lentCauses dev chain main store answers) refl e in
-    let others : Bool = length store =? 0 || not (length store % dev .block =? 0) || 131072 <? storeBlocks dev store || mapEntries <? dev .alternates in
-    ltb-true (dev .alternates) (storeBlocks dev store) (not-false _ (either-false others (not (dev .alternates <? storeBlocks dev store)) (f .1 .0) .1))
+lent-primary dev chain main store answers e = right-store dev store (failed-all 0 (lentCauses dev chain main store answers) refl e .1 .0) .some-primary
 
 pub callable : (dev : Device) (chain main store map answers : List ℕ) → firstOf (callCauses dev chain main store map answers) ≡ 0 → Callable dev chain main store map answers
 unfolding callCauses lentCauses mapCauses blockCount
@@ -54,23 +73,19 @@ callable dev chain main store map answers e =
     let f = failed-all 0 (callCauses dev chain main store map answers) refl e in
     let p = either-false _ _ (f .0) in
     let q = either-false _ _ (p .0) in
-    let a = either-false _ _ (f .1 .0) in
-    let b = either-false _ _ (a .0) in
-    let r = either-false _ _ (b .0) in
-    let t = either-false _ _ (r .0) in
-    let more = ltb-true (dev .alternates) (storeBlocks dev store) (not-false _ (a .1)) in
     let nonzero = eqb-false (length chain) 0 (q .0) in
     let short = ltb-false 256 (length chain) (q .1) in
     let eights = eqb-true (length chain % ccwSize) 0 (not-false _ (p .1)) in
+    let k = right-store dev store (f .1 .0) in
     record {
       some = omega (arith, nonzero);
       few = omega arith;
       whole = omega (arith, eights);
-      stored = eqb-false _ _ (t .0);
-      even = eqb-true _ _ (not-false _ (t .1));
-      held = ltb-false _ _ (r .1);
-      few-alternates = ltb-false _ _ (b .1);
-      some-block = omega (arith, more);
+      stored = k .stored;
+      even = k .even;
+      held = k .held;
+      few-alternates = k .few-alternates;
+      some-block = omega (arith, k .some-primary);
       small = ltb-false _ _ (f .1 .1 .0);
       answered = ltb-false _ _ (f .1 .1 .1 .0);
       closes = closes-start chain (length chain / ccwSize) (omega arith) (f .1 .1 .1 .1 .0);

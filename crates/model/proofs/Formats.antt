@@ -53,7 +53,11 @@ module _ (map : List ℕ) (alternates block : ℕ) (few : alternates ≤ mapEntr
         rw (pick-true (old <? alternates) (withEntry map old DEFECTIVE) map (lt-ltb old alternates l)) (entry-other map old DEFECTIVE j (rw long (omega (arith, few, l))) (n l))
   ]
 
-  flagged-room : taken * 4 + 4 ≤ length (flagged map alternates block)
+  -- the entry that is taken is still unused
+  pub flagged-taken : entryAt (flagged map alternates block) taken ≡ UNUSED
+  flagged-taken = flagged-kept taken taken-other ∙ was-unused
+
+  pub flagged-room : taken * 4 + 4 ≤ length (flagged map alternates block)
   flagged-room = rw (length-flagged map alternates block few long) (omega (arith, few, takes))
 
   pub entry-taken : entryAt (formatted map alternates block) taken ≡ nameOf block
@@ -112,10 +116,10 @@ pub record Right (map : List ℕ) (alternates primaries : ℕ) : Type 0 where
   pub known : (i : ℕ) → i < mapEntries → isName (entryAt map i) ≡ true → entryAt map i ≤ primaries
   pub beyond : (i : ℕ) → i < mapEntries → alternates ≤ i → entryAt map i ≡ UNUSED
 
-name-is : (e : ℕ) → (e ≡ UNUSED → ⊥) → (e ≡ DEFECTIVE → ⊥) → isName e ≡ true
+pub name-is : (e : ℕ) → (e ≡ UNUSED → ⊥) → (e ≡ DEFECTIVE → ⊥) → isName e ≡ true
 name-is e n m = rw (ne-eqb e 0 n, ne-eqb e DEFECTIVE m) refl
 
-name-some : (e : ℕ) → isName e ≡ true → e ≡ UNUSED → ⊥
+pub name-some : (e : ℕ) → isName e ≡ true → e ≡ UNUSED → ⊥
 name-some e b z = true≢false (sym b ∙ ap isName z)
 
 name-sound : (e : ℕ) → isName e ≡ true → e ≡ DEFECTIVE → ⊥

@@ -4,6 +4,8 @@ pub mod Pieces
 pub mod Runs
 pub mod Alternates
 pub mod Formats
+pub mod Returns
+pub mod Counts
 pub mod Blocks
 pub mod Steps
 pub mod Refusals
@@ -15,7 +17,10 @@ pub mod Fields
 pub mod Kept
 pub mod Records
 pub mod Hosts
+pub mod BroughtHome
+pub mod GiveBack
 pub mod Class
+pub mod History
 pub mod Exactly
 pub mod Permissions
 pub mod Read
@@ -35,6 +40,7 @@ pub mod Worked
 pub mod WorkedPieces
 pub mod WorkedClass
 pub mod WorkedAlternates
+pub mod WorkedGiveBack
 pub mod Overruled
 pub mod Corners
 pub mod WrongUnits

@@ -292,7 +292,7 @@ module _ (dev : Device) (chain : List ℕ) where
 -- the call
 
 module _ (dev : Device) (chain main store : List ℕ) (u : Record) (map answers : List ℕ) (long : length map ≡ mapSize) where
-  start-sound : firstOf (callCauses dev chain main store map answers) ≡ 0 → Sound dev (start u map) store
+  pub start-sound : firstOf (callCauses dev chain main store map answers) ≡ 0 → Sound dev (start u map) store
   unfolding start blockCount
   start-sound e =
       let k = callable dev chain main store map answers e in

@@ -4,12 +4,13 @@
 --     record-front              all of the record but its map is the first 34 of them
 --     record-back, map-back, bytes-back
 --                               nothing is lost on either way
+--     map-replaced              nor where the map is another
 -- No contract cites this file.
 use Prim.Native.Nat.{ℕ, _+_, _≤_}
 use mathlib.Core.Path.{_≡_, refl, sym, ap, _∙_}
 use mathlib.Core.List.{List, [], _∷_, _++_, append-assoc, append-nil}
 use lib.ListN.{length, getD, take, length-append}
-use lib.Seq.{getD-at, getD-append-add, take-all}
+use lib.Seq.{getD-at, getD-append-add, take-all, length-take-le}
 use native.Mathlib.Omega.{arith}
 use Rattle.numbers.specs.Bytes.{AreBytes}
 use Rattle.numbers.proofs.Bytes.{bytes-nil, bytes-cons, bytes-append, byte-at}
@@ -58,9 +59,20 @@ pub bytes-back : (l : List ℕ) → length l ≡ recordSize → recordBytes (rec
 unfolding mapOf
 bytes-back l e = rw (record-front l (omega (arith, e)), take-part l mapPlace mapSize) (take-all recordSize l (omega (arith, e)))
 
-pub map-back : (u : Record) (map : List ℕ) → IsRecord u → length map ≡ mapSize → mapOf (recordBytes u map) ≡ map
+map-behind : (front map : List ℕ) → length front ≡ mapPlace → length map ≡ mapSize → mapOf (front ++ map) ≡ map
 unfolding mapOf
-map-back u map r e = rw (append-nil map) at (part-between (unitBytes u) map [] mapPlace mapSize (unit-length u r) e)
+map-behind front map f e = rw (append-nil map) at (part-between front map [] mapPlace mapSize f e)
+
+pub map-back : (u : Record) (map : List ℕ) → IsRecord u → length map ≡ mapSize → mapOf (recordBytes u map) ≡ map
+map-back u map r e = map-behind (unitBytes u) map (unit-length u r) e
+
+-- 290 bytes with another map
+
+pub record-front-length : (l : List ℕ) → length l ≡ recordSize → length (unitBytes (recordOf l)) ≡ mapPlace
+record-front-length l e = rw (record-front l (omega (arith, e))) (length-take-le mapPlace l (omega (arith, e)))
+
+pub map-replaced : (l map : List ℕ) → length l ≡ recordSize → length map ≡ mapSize → mapOf (recordBytes (recordOf l) map) ≡ map
+map-replaced l map e f = map-behind (unitBytes (recordOf l)) map (record-front-length l e) f
 
 pub record-back : (u : Record) (map : List ℕ) → IsRecord u → recordOf (recordBytes u map) ≡ u
 unfolding recordOf unitBytes

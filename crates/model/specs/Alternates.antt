@@ -1,10 +1,12 @@
 -- The alternates of a device, and the map that says which block lies at which of them (02, ask 4).
 --     mapEntries, entrySize, mapSize   "a map, 64 entries of four bytes"
 --     entryAt, withEntry               entry i of a map; the map with another one there
+--     isUnused, isDefective, isName    what an entry says: nothing yet, that its alternate is defective, or a block
 --     alternateOf                      the alternate that a block is mapped to; where there is none, the number of alternates
 --     lies                             where a block lies, of all blocks of the store: by this, and by nothing else, blocks are reached
 --     unusedIn                         the alternate that a format takes; where there is none, the number of alternates
 --     formatted                        the map after a format
+--     unmapped                         the map after a mapped block was given its own place back (02, ask 6)
 --     badMap                           cause 8's rule
 -- The store's blocks are the primaries, then the alternates. `alternates` and `primaries` are how many of them there are. Assumes nothing.
 use Prim.Native.Nat.{ℕ, _+_, _*_}
@@ -36,8 +38,14 @@ withEntry map i entry = put map (i * entrySize) (bytes4 entry)
 abbrev pub nameOf : ℕ → ℕ
 nameOf block = block + 1
 
+abbrev pub isUnused : ℕ → Bool
+isUnused entry = entry =? UNUSED
+
+abbrev pub isDefective : ℕ → Bool
+isDefective entry = entry =? DEFECTIVE
+
 abbrev pub isName : ℕ → Bool
-isName entry = not (entry =? UNUSED) && not (entry =? DEFECTIVE)
+isName entry = not (isUnused entry) && not (isDefective entry)
 
 -- the lowest alternate with this entry
 abbrev pub lowestWith : List ℕ → ℕ → ℕ → ℕ
@@ -64,6 +72,10 @@ flagged map alternates block =
 
 unfoldable pub formatted : List ℕ → ℕ → ℕ → List ℕ
 formatted map alternates block = withEntry (flagged map alternates block) (unusedIn map alternates) (nameOf block)
+
+-- ask 6: "unmaps a named block"
+unfoldable pub unmapped : List ℕ → ℕ → ℕ → List ℕ
+unmapped map alternates block = withEntry map (alternateOf map alternates block) UNUSED
 
 -- "two entries name one primary, an entry names none of the device's, or an entry beyond the device's alternates is not 0"
 

@@ -1,6 +1,7 @@
 -- The table of causes (01, Causes): each cause with the rule by which it is given, in 01's order.
 --     callCauses            1 to 5, 8          before any command; up to 5 in lentCauses, 8 in mapCauses
---     hostCauses            1 to 6, 8          the same, where the unit record comes as bytes
+--     hostCauses            1 to 6, 8          the same, where the unit record comes as bytes; 6 in recordCauses
+--     giveBackCauses        2, 6, 8, 50, 51    where an alternate is given back; up to 8 in deviceCauses, 50 and 51 in returnCauses
 --     channelCauses         13, 10, 11, 12     the channel's own tests of a command: program checks; from 10 on in pieceCauses
 --     unitCauses            44, 43             the unit's tests of any command that it sees
 --     defineExtentCauses    20 to 26           the commands' own tests; from 22 on in extentCauses
@@ -29,7 +30,7 @@ use Rattle.model.specs.State.{State}
 use Rattle.model.specs.Names.{NO-OPERATION, DEFINE-EXTENT, LOCATE, READ, WRITE, READ-IPL, SENSE, SENSE-TYPE, READ-LOG, chain-data, chain-command, format, read-replicated}
 use Rattle.numbers.specs.Choice.{_<?_, _=?_, pick, oneOf}
 use Rattle.model.specs.Rules.{Rule, _when_, firstOf}
-use Rattle.model.specs.Alternates.{mapEntries, unusedIn, badMap}
+use Rattle.model.specs.Alternates.{mapEntries, alternateOf, unusedIn, badMap}
 use Rattle.model.specs.Lent.{ccwSize, pieceAt, flag, storeBlocks, blockCount, recordSize, mapOf}
 use Rattle.model.specs.Pieces.{Command, total, fetched}
 use Rattle.model.specs.Parameters.{extentLength, extentIn, reservedIn, sizeIn, locateLength, locatedIn, modifiersIn, replicationIn, processed, operations, reads, writes, forbids, address, outside}
@@ -88,9 +89,30 @@ mapCauses dev store map = 8 when badMap map (dev .alternates) (blockCount dev st
 unfoldable pub callCauses : Device → List ℕ → List ℕ → List ℕ → List ℕ → List ℕ → List Rule
 callCauses dev chain main store map answers = lentCauses dev chain main store answers ++ mapCauses dev store map
 
+-- "cause 6 for the new length"
+abbrev pub recordCauses : List ℕ → List Rule
+recordCauses unit = 6 when not (length unit =? recordSize) ∷ []
+
 unfoldable pub hostCauses : Device → List ℕ → List ℕ → List ℕ → List ℕ → List ℕ → List Rule
-hostCauses dev chain main store unit answers =
-    lentCauses dev chain main store answers ++ (6 when not (length unit =? recordSize) ∷ mapCauses dev store (mapOf unit))
+hostCauses dev chain main store unit answers = lentCauses dev chain main store answers ++ (recordCauses unit ++ mapCauses dev store (mapOf unit))
+
+-- a device as it is lent where no chain is run: 2, 6 and 8 "as the call gives them"
+unfoldable pub deviceCauses : Device → List ℕ → List ℕ → List Rule
+deviceCauses dev store unit = 2 when badStore dev store ∷ (recordCauses unit ++ mapCauses dev store (mapOf unit))
+
+-- an alternate given back: "then cause 50 for a block beyond the device, 51 for one not mapped, in that order"
+
+abbrev pub notMapped : Device → List ℕ → ℕ → Bool
+notMapped dev map block = not (alternateOf map (dev .alternates) block <? dev .alternates)
+
+abbrev pub returnCauses : Device → List ℕ → List ℕ → ℕ → List Rule
+returnCauses dev store map block =
+    50 when not (block <? blockCount dev store)
+    ∷ 51 when notMapped dev map block
+    ∷ []
+
+unfoldable pub giveBackCauses : Device → List ℕ → List ℕ → ℕ → List Rule
+giveBackCauses dev store unit block = deviceCauses dev store unit ++ returnCauses dev store (mapOf unit) block
 
 -- the channel: 10 to 13 are program checks, and the unit does not see the command
 

@@ -14,6 +14,8 @@ pub mod Chain
 pub mod Host
 pub mod Class
 pub mod OneByOne
+pub mod GiveBack
+pub mod History
 pub mod Written
 pub mod Decoded
 pub mod Safe

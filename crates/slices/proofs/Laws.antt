@@ -182,6 +182,10 @@ pub put-copied : (l bytes : List ℕ) → take (length bytes) bytes ++ drop (len
 unfolding put
 put-copied l bytes = rw (take-length, zero-add)
 
+-- what was copied to the front is what the front has
+pub front-put : (l bytes : List ℕ) (n : ℕ) → n ≤ length bytes → n ≤ length l → take n (put l 0 (take n bytes)) ≡ take n bytes
+front-put l bytes n h fits = rw zero-add at (take-put l 0 (take n bytes) n (length-take-le n bytes h) (omega arith))
+
 pub put-zeros-none : (l : List ℕ) → put l 0 (zeros 0) ≡ l
 unfolding put zeros
 put-zeros-none l = refl
@@ -239,6 +243,13 @@ put-lent-filled l bytes back at n e h =
     let long : length (midOf at (at + n - at) l) ≡ n = mid-len at (at + n) l h ∙ omega arith in
     let filled : back ≡ pad n bytes = rw long at e in
     put-lent-whole l back at n (rw (filled, long) (length-pad n bytes)) h ∙ ap (put l at) filled
+
+-- the callee cleared the part
+pub put-lent-cleared : (l back : List ℕ) (at n : ℕ) → back ≡ zeros (length (midOf at (at + n - at) l)) → at + n ≤ length l → putMid at (at + n - at) l back ≡ put l at (zeros n)
+put-lent-cleared l back at n e h =
+    let long : length (midOf at (at + n - at) l) ≡ n = mid-len at (at + n) l h ∙ omega arith in
+    let cleared : back ≡ zeros n = rw long at e in
+    put-lent-whole l back at n (rw (cleared, long) (length-zeros n)) h ∙ ap (put l at) cleared
 
 -- some bytes of some
 

@@ -1,8 +1,8 @@
-// How bytes move between slices: copied, cleared, put at a place. Nothing here is refused: a caller proves that what it names is there.
+// How bytes move between slices, and within one: copied, cleared, put at a place. Nothing here is refused: a caller proves that what it names is there.
 ghost use mathlib.Core.Path.{_≡_};
 ghost use Prim.Native.Nat.{_+_, _≤_, min};
 ghost use lib.ListN.{length, take};
-ghost use Rattle.slices.specs.Parts.{zeros, put, mostCopied};
+ghost use Rattle.slices.specs.Parts.{zeros, part, put, mostCopied};
 
 // The lesser of two.
 pub fn least(a: usize, b: usize) -> usize
@@ -31,6 +31,16 @@ pub fn copy(from: &[u8], to: &mut [u8], n: usize)
     let mut held = [0u8; HELD];
     each(from, &mut held, n);
     each(&held, to, n);
+}
+
+// The n bytes from `from` on go to `at`, in one slice, by way of a local as in `copy`.
+pub fn copy_within(l: &mut [u8], from: usize, at: usize, n: usize)
+    requires { ⌜ (from + n ≤ length (now l)) × (at + n ≤ length (now l)) × (n ≤ mostCopied) ⌝ }
+    ensures { λ _. ⌜ now (l .exit) ≡ put (now (l .entry)) at (part (now (l .entry)) from n) ⌝ }
+{
+    let mut held = [0u8; HELD];
+    each(&l[from..], &mut held, n);
+    each(&held, &mut l[at..], n);
 }
 
 // Zero in every byte.

@@ -14,22 +14,21 @@ mapped : (map : List ℕ) (alternates block old : ℕ) → old ≡ alternateOf m
 unfolding flagged
 mapped map alternates block old e l = rw (← e) (pick-true _ _ _ (lt-ltb old alternates l))
 
-unmapped : (map : List ℕ) (alternates block old : ℕ) → old ≡ alternateOf map alternates block → alternates ≤ old → flagged map alternates block ≡ map
+not-mapped : (map : List ℕ) (alternates block old : ℕ) → old ≡ alternateOf map alternates block → alternates ≤ old → flagged map alternates block ≡ map
 unfolding flagged
-unmapped map alternates block old e l = rw (← e) (pick-false _ _ _ (le-ltb old alternates l))
+not-mapped map alternates block old e l = rw (← e) (pick-false _ _ _ (le-ltb old alternates l))
 
 returns : tie.Need-returns
-returns c = c .before .before .put-entry .ensures ∙ sym (mapped _ _ _ _ (c .before .before .before .before .before .lowest-entry .ensures) (c .before .before .before .before .if1 .taken))
+returns c = c .before .before .put-entry .ensures ∙ sym (mapped _ _ _ _ (c .before .before .before .before .before .alternate-of .ensures) (c .before .before .before .before .if1 .taken))
 
 returns-2 : tie.Need-returns-2
-returns-2 c = sym (unmapped _ _ _ _ (c .before .lowest-entry .ensures) (c .if1 .left))
+returns-2 c = sym (not-mapped _ _ _ _ (c .before .alternate-of .ensures) (c .if1 .left))
 
 pub flag-old-spec : {M : Type 1} → statement M
 flag-old-spec =
     tie.close
     (tie.spec
-    (search needs)  -- add-lowest-entry
-    (search needs)  -- lowest-entry-requires
+    (search needs)  -- alternate-of-requires
     (search needs)  -- put-entry-requires
     (search needs)  -- same-length
     returns

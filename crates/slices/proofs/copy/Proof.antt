@@ -4,17 +4,12 @@ use borrow.Author.Needs.{needs}
 use mathlib.Core.Path.{_≡_, ap, _∙_}
 use mathlib.Core.List.{List}
 use Prim.Native.Nat.{ℕ, _≤_}
-use native.Mathlib.Nat.{zero-add}
 use native.Mathlib.Omega.{arith}
 use lib.ListN.{length, take, replicate, length-replicate}
-use lib.Seq.{length-take-le}
 use Rattle.slices.specs.Parts.{put}
-use Rattle.slices.proofs.Laws.{take-put}
+use Rattle.slices.proofs.Laws.{front-put}
 use Rattle.slices.proofs.copy.Statement.{statement}
 use Rattle.slices.proofs.copy.Tie as tie
-
-held : (room from : List ℕ) (n : ℕ) → n ≤ length from → n ≤ length room → take n (put room 0 (take n from)) ≡ take n from
-held room from n h fits = rw zero-add at (take-put room 0 (take n from) n (length-take-le n from h) (omega arith))
 
 returns : tie.Need-returns
 returns c =
@@ -23,7 +18,7 @@ returns c =
     let a = start .args in
     let room : List ℕ = replicate 65536 0 in
     let fits : a .n ≤ length room = rw length-replicate (start .pre .2) in
-    let same : take (a .n) (first .each .last .1 .0) ≡ take (a .n) (a .from .now) = rw (first .each .ensures) (held room (a .from .now) (a .n) (start .pre .0) fits) in
+    let same : take (a .n) (first .each .last .1 .0) ≡ take (a .n) (a .from .now) = rw (first .each .ensures) (front-put room (a .from .now) (a .n) (start .pre .0) fits) in
     c .before .before .each2 .ensures ∙ ap (put (a .to .now) 0) same
 
 pub copy-spec : {M : Type 1} → statement M

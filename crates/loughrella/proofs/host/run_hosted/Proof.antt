@@ -30,7 +30,7 @@ map-cause-requires c κs =
     let lent = sized (a .d) (a .chain .now) (a .storage .now) (a .store .now) (a .unit .now) (a .answers .now) (first .pre .1) .0 in (
       first .pre .0,
       omega (arith, lent-primary (a .d) (a .chain .now) (a .storage .now) (a .store .now) (a .answers .now) lent),
-      map-whole (a .d) (a .chain .now) (a .storage .now) (a .store .now) (a .unit .now) (a .answers .now) (first .pre .1),
+      map-whole (a .unit .now) (long first),
     )
 
 returns : tie.Need-returns
@@ -53,7 +53,7 @@ run-allowed-requires : tie.Need-run-allowed-requires
 run-allowed-requires c κs =
     let first = c .before .before .before .before .before .before .before .before .before .before .before .before .before .before .before .before in
     let a = first .args in
-    (first .pre .0, map-whole (a .d) (a .chain .now) (a .storage .now) (a .store .now) (a .unit .now) (a .answers .now) (first .pre .1), allowed (c .before .before .before .before .before .before))
+    (first .pre .0, map-whole (a .unit .now) (long first), allowed (c .before .before .before .before .before .before))
 
 -- the run, of which `run_allowed` promises, leaves as many bytes of record
 record-kept : (c : tie.Start) (u : Record) (w : Walked) (main′ store′ map′ answers′ : List ℕ) → let a = c .args in let map = midOf mapPlace (length (a .unit .now) - mapPlace) (a .unit .now) in
