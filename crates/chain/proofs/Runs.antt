@@ -52,7 +52,7 @@ use Rattle.model.proofs.Steps.{step_cause}
 use Rattle.unit_state.specs.declared.Left.{Left}
 use Rattle.sense_table.specs.Sensed.{sense_showing}
 use Rattle.unit_state.specs.declared.Running.{Running}
-use Rattle.log.specs.Counts.{counted}
+use Rattle.buffered_log.specs.Counts.{counted}
 use Rattle.unit_state.specs.Standing.{holding, started, unit_of, state_of, state_left, unit_left, Sound}
 use Rattle.unit_state.proofs.Units.{left_any, left_map, started_state, safe_any}
 use Rattle.endings.specs.declared.Answer.{Answer}

@@ -25,7 +25,7 @@ use Rattle.model.specs.Sense.{shown}
 use Rattle.model.specs.Commands.{Out}
 use Rattle.model.specs.Chain.{System, system, step_at, next, more, run, start, Called, called, call_of}
 use Rattle.model.specs.Safe.{Closes}
-use Rattle.log.specs.Counts.{counts_of}
+use Rattle.buffered_log.specs.Counts.{counts_of}
 use Rattle.sense_table.specs.Sensed.{sense_showing, no_sense}
 use Rattle.unit_state.specs.declared.Running.{Running}
 use Rattle.unit_state.specs.declared.Left.{Left}

@@ -24,8 +24,8 @@ use Rattle.model.proofs.Verdicts.{first_later}
 use Rattle.model.proofs.Read.{location_reads}
 use Rattle.model.proofs.Steps.{performed_as}
 use Rattle.slices.specs.Parts.{zeros, put}
-use Rattle.log.specs.Counts.{with_movement}
-use Rattle.log.proofs.Counting.{movement_counted_lem}
+use Rattle.buffered_log.specs.Counts.{with_movement}
+use Rattle.buffered_log.proofs.Counting.{movement_counted_lem}
 use Rattle.storage.proofs.Laws.{fetched_array}
 use Rattle.unit_state.specs.declared.Running.{Running}
 use Rattle.unit_state.specs.Standing.{holding, with_locate, state_of, Handed}

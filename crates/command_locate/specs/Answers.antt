@@ -13,7 +13,7 @@ use Rattle.model.specs.Parameters.{locate_length, located_in}
 use Rattle.model.specs.Causes.{location_causes}
 use Rattle.model.specs.Commands.{map_after}
 use Rattle.model.specs.Sense.{shown}
-use Rattle.log.specs.Counts.{with_movement}
+use Rattle.buffered_log.specs.Counts.{with_movement}
 use Rattle.unit_state.specs.declared.Running.{Running}
 use Rattle.unit_state.specs.Standing.{with_locate, state_of}
 use Rattle.endings.specs.declared.Ended.{Ended}

@@ -16,7 +16,7 @@ ghost use Rattle.command_locate.specs.Answers.{location_number, located_by, map_
 
 use alternates::{format_block, unused};
 use endings::{Ended, accept, refuse, refuse_parameters};
-use log::movement_counted;
+use buffered_log::movement_counted;
 use model::decoded::Decoded;
 use model::device::Device;
 use model::extent::{Displacement, Extent, Located};

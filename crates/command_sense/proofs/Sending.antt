@@ -20,8 +20,8 @@ use Rattle.model.specs.Decoded.{command_of, Decodes}
 use Rattle.model.specs.Log.{with_sense, with_counts, log_of, log_reset}
 use Rattle.model.specs.Commands.{Out, after, cleared, sent, sense, sense_type, read_log, performed}
 use Rattle.model.proofs.Steps.{performed_as}
-use Rattle.log.specs.Counts.{counted, no_counts}
-use Rattle.log.proofs.Counting.{none_counted}
+use Rattle.buffered_log.specs.Counts.{counted, no_counts}
+use Rattle.buffered_log.proofs.Counting.{none_counted}
 use Rattle.unit_state.specs.declared.Running.{Running}
 use Rattle.unit_state.specs.Standing.{went_on, sense_now, unit_of, state_of}
 use Rattle.unit_state.proofs.Units.{went_on_lem, same_counts}

@@ -10,7 +10,7 @@ ghost use Rattle.endings.specs.Ending.{Performs};
 ghost use Rattle.command_sense.specs.Sent.{sent_end};
 
 use endings::{Ended, accept};
-use log::{Log, none_counted};
+use buffered_log::{Log, none_counted};
 use model::decoded::Decoded;
 use model::record::{Counts, Record};
 use model::state::Before;

@@ -39,8 +39,8 @@ use Rattle.model.proofs.Safety.{on_device}
 use Rattle.model.proofs.Blocks.{mounted_primaries}
 use Rattle.model.proofs.Fields.{begun_within}
 use Rattle.model.proofs.Steps.{performed_as}
-use Rattle.log.specs.Counts.{counted, with_read, with_movement}
-use Rattle.log.proofs.Counting.{read_counted_lem, written_counted_lem, movement_counted_lem}
+use Rattle.buffered_log.specs.Counts.{counted, with_read, with_movement}
+use Rattle.buffered_log.proofs.Counting.{read_counted_lem, written_counted_lem, movement_counted_lem}
 use Rattle.blocks.specs.Places.{Movable}
 use Rattle.unit_state.specs.declared.Running.{Running}
 use Rattle.unit_state.specs.Standing.{holding, went_on, with_extent, state_of, Sound, Handed}

@@ -13,7 +13,7 @@ use Rattle.model.specs.declared.record.Counts.{Counts}
 use Rattle.model.specs.declared.state.Before.TheVariants.{Other, ReadIpl}
 use Rattle.model.specs.Names.{write_check}
 use Rattle.model.specs.Commands.{begun, first_block, can_move, whole_device}
-use Rattle.log.specs.Counts.{with_read, with_written, with_movement}
+use Rattle.buffered_log.specs.Counts.{with_read, with_written, with_movement}
 use Rattle.unit_state.specs.declared.Running.{Running}
 use Rattle.unit_state.specs.Standing.{went_on, with_extent}
 use Rattle.endings.specs.declared.Ended.{Ended}

@@ -12,7 +12,7 @@ ghost use Rattle.command_transfer.specs.Transferred.{Placed, move_of, read_end, 
 
 use blocks::{begun, block_count, read_blocks, read_mapped, store_blocks};
 use endings::{Ended, accept, refuse};
-use log::{movement_counted, read_counted, written_counted};
+use buffered_log::{movement_counted, read_counted, written_counted};
 use model::decoded::Decoded;
 use model::device::Device;
 use model::extent::{Displacement, Extent, Offset};

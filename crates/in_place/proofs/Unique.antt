@@ -31,8 +31,8 @@ use Rattle.model.specs.declared.device.Device.{Device}
 use Rattle.model.specs.State.{State}
 use Rattle.model.specs.Causes.{kind_of}
 use Rattle.model.specs.Chain.{System, Called, called}
-use Rattle.log.specs.declared.Log.{Log}
-use Rattle.log.specs.Counts.{counted}
+use Rattle.buffered_log.specs.declared.Log.{Log}
+use Rattle.buffered_log.specs.Counts.{counted}
 use Rattle.model.proofs.Leaving.{leaves_ind}
 use Rattle.sense_table.specs.Sensed.{sense_bytes}
 use Rattle.unit_state.specs.declared.Running.{Running}

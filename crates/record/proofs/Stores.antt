@@ -28,7 +28,7 @@ use Rattle.model.specs.Commands.{after, leaves}
 use Rattle.model.specs.Lent.{unit_bytes, record_of}
 use Rattle.model.specs.contracts.kind.Kind.{the_type}
 use Rattle.model.proofs.Leaving.{leaves_ind}
-use Rattle.log.specs.Counts.{counted}
+use Rattle.buffered_log.specs.Counts.{counted}
 use Rattle.sense_table.specs.Sensed.{sense_bytes}
 use Rattle.unit_state.specs.declared.Left.{Left}
 use Rattle.unit_state.specs.Standing.{holding, sense_now, unit_of, state_of, unit_left}

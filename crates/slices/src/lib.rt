@@ -16,7 +16,7 @@ fn each(from: &[u8], to: &mut [u8], k: usize)
     requires { ⌜ (k ≤ length (now from)) × (k ≤ length (now to)) ⌝ }
     ensures { λ _. ⌜ now (to .exit) ≡ put (now (to .entry)) 0 (take k (now (from .entry))) ⌝ }
 {
-    bytes::copy(&from[..k], to);
+    to[..k].copy_from_slice(&from[..k]);
 }
 
 // The most that one copy moves: a count has 16 bits.

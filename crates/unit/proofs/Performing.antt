@@ -25,7 +25,7 @@ use Rattle.model.specs.Safe.{Mounted, HasMap, OnDevice}
 use Rattle.model.proofs.Blocks.{mounted_primaries}
 use Rattle.model.proofs.Read.{table_reads}
 use Rattle.model.proofs.Steps.{early_channel, early_unit, step_early, step_performed, performed_as}
-use Rattle.log.specs.Counts.{counted}
+use Rattle.buffered_log.specs.Counts.{counted}
 use Rattle.unit_state.specs.declared.Running.{Running}
 use Rattle.unit_state.specs.Standing.{holding, passed_on, unit_of, state_of, Sound}
 use Rattle.unit_state.proofs.Units.{empty, passed_on_lem}

@@ -23,7 +23,7 @@ use Rattle.model.specs.Log.{with_sense, with_counts}
 use Rattle.model.specs.Commands.{after, extent_set, locate_set, cleared}
 use Rattle.model.specs.Chain.{start}
 use Rattle.model.specs.Safe.{Safe}
-use Rattle.log.specs.Counts.{counted}
+use Rattle.buffered_log.specs.Counts.{counted}
 use Rattle.unit_state.specs.declared.Running.{Running}
 use Rattle.unit_state.specs.declared.Left.{Left}
 use Rattle.unit_state.specs.Standing.{started, went_on, with_extent, with_locate, passed_on, holding, sense_now, unit_of, state_of, state_left, unit_left}

@@ -29,7 +29,7 @@ use Rattle.model.specs.Commands.{leaves}
 use Rattle.model.specs.Decoded.{area_of, Decodes}
 use Rattle.model.specs.Safe.{Mounted, Inside, Safe}
 use Rattle.model.specs.Names.{sense_size}
-use Rattle.log.specs.Counts.{counts_of, counted}
+use Rattle.buffered_log.specs.Counts.{counts_of, counted}
 use Rattle.sense_table.specs.Sensed.{sense_bytes}
 use Rattle.unit_state.specs.declared.Running.{Running}
 use Rattle.unit_state.specs.declared.Left.{Left}

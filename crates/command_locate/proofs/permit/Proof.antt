@@ -7,7 +7,7 @@ use Rattle.model.specs.Rules.{Rule, first_of}
 use Rattle.model.specs.Log.{with_sense, with_counts}
 use Rattle.model.specs.Causes.{permission_causes}
 use Rattle.model.proofs.Verdicts.{first_here, first_later, first_none}
-use Rattle.log.specs.Counts.{counted}
+use Rattle.buffered_log.specs.Counts.{counted}
 use Rattle.unit_state.specs.Standing.{holding, unit_of, state_of}
 use Rattle.command_locate.proofs.permit.Statement.{statement}
 use Rattle.command_locate.proofs.permit.Tie as tie

@@ -2,7 +2,7 @@
 use mathlib.Core.Path.{refl}
 use borrow.Author.Rules.{rules}
 use Rattle.model.specs.Log.{with_sense, with_counts}
-use Rattle.log.specs.Counts.{counted}
+use Rattle.buffered_log.specs.Counts.{counted}
 use Rattle.record.proofs.Stores.{unit_left_lem}
 use Rattle.record.proofs.record_left.Statement.{statement}
 use Rattle.record.proofs.record_left.Tie as tie

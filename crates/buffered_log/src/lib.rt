@@ -4,7 +4,7 @@ ghost use Rattle.std.specs.Prelude.{◌≡◌, ◌<◌, length};
 ghost use Rattle.model.specs.Names.{sense_size};
 ghost use Rattle.model.specs.declared.record.Record.{Record};
 ghost use Rattle.model.specs.Log.{added3, log_of};
-ghost use Rattle.log.specs.Counts.{counted, with_read, with_written, with_movement, no_counts};
+ghost use Rattle.buffered_log.specs.Counts.{counted, with_read, with_written, with_movement, no_counts};
 
 use model::record::Counts;
 use model::sizes;

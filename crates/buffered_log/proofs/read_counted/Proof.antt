@@ -1,7 +1,7 @@
 -- `read_counted` meets its contract: the field that changes is the sum that stops. Assumes nothing.
 use borrow.Author.Rules.{rules}
-use Rattle.log.proofs.read_counted.Statement.{statement}
-use Rattle.log.proofs.read_counted.Tie as tie
+use Rattle.buffered_log.proofs.read_counted.Statement.{statement}
+use Rattle.buffered_log.proofs.read_counted.Tie as tie
 
 returns : tie.Need-returns
 returns c = rw c.added3.ensures

@@ -15,7 +15,7 @@ use Rattle.slices.proofs.Laws.{length_zeros, length_put_is}
 use Rattle.model.specs.declared.record.Record.{Record}
 use Rattle.model.specs.declared.record.Counts.{Counts}
 use Rattle.model.specs.Log.{with_counts, log_of}
-use Rattle.log.specs.Counts.{counted}
+use Rattle.buffered_log.specs.Counts.{counted}
 
 pub record Arrays (k : Counts) : Type 0 where
   pub read : length k.blocks_read ≡ 3

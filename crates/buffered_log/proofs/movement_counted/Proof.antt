@@ -1,8 +1,8 @@
 -- `movement_counted` meets its contract: the field that changes is the sum that stops. Assumes nothing.
 use borrow.Author.Rules.{rules}
 use Rattle.model.specs.Log.{added2}
-use Rattle.log.proofs.movement_counted.Statement.{statement}
-use Rattle.log.proofs.movement_counted.Tie as tie
+use Rattle.buffered_log.proofs.movement_counted.Statement.{statement}
+use Rattle.buffered_log.proofs.movement_counted.Tie as tie
 
 returns : tie.Need-returns
 unfolding added2

@@ -2,8 +2,8 @@
 -- Assumes nothing.
 use borrow.Author.Rules.{rules}
 use Rattle.model.specs.Log.{added3}
-use Rattle.log.proofs.added3.Statement.{statement}
-use Rattle.log.proofs.added3.Tie as tie
+use Rattle.buffered_log.proofs.added3.Statement.{statement}
+use Rattle.buffered_log.proofs.added3.Tie as tie
 
 pub added3-spec : {M : Type 1} → statement M
 unfolding added3

@@ -6,9 +6,9 @@ use mathlib.Core.Path.{ap, ◌∙◌}
 use mathlib.Core.List.{[]}
 use lib.ListN.{length}
 use Rattle.model.specs.declared.record.Record.{Record}
-use Rattle.log.proofs.Stores.{Arrays, log_length, log_stored}
-use Rattle.log.proofs.Log.of.Statement.{statement}
-use Rattle.log.proofs.Log.of.Tie as tie
+use Rattle.buffered_log.proofs.Stores.{Arrays, log_length, log_stored}
+use Rattle.buffered_log.proofs.Log.of.Statement.{statement}
+use Rattle.buffered_log.proofs.Log.of.Tie as tie
 
 arrays : (c : tie.Start) → Arrays c.args.k
 arrays c = record { read = search rules; written = search rules; movements = search rules }

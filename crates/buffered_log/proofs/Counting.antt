@@ -4,7 +4,7 @@ use mathlib.Core.Path.{◌≡◌, refl}
 use Rattle.model.specs.declared.record.Record.{Record}
 use Rattle.model.specs.declared.record.Counts.{Counts}
 use Rattle.model.specs.Log.{with_counts, read_counted, written_counted, movement_counted, log_reset}
-use Rattle.log.specs.Counts.{counted, with_read, with_written, with_movement, no_counts}
+use Rattle.buffered_log.specs.Counts.{counted, with_read, with_written, with_movement, no_counts}
 
 module _ (u : Record) (k : Counts) where
   pub read_counted_lem : (n : ℕ) → counted u (with_read n k) ≡ read_counted n (counted u k)
