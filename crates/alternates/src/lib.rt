@@ -2,6 +2,8 @@
 // blocks lie (`places`, `alternate_of`), and what a format (`unused`, `format_block`) and a return (`unmap`) make of it. `alternates` and
 // `primaries` are how many of them the device has. Nothing here is refused: a caller proves that the map has its bytes, and that what it
 // names is there.
+#![tactic(auto)]
+
 ghost use Rattle.std.specs.Prelude.{◌≡◌, false, ℕ, ◌+◌, ◌*◌, ◌≤◌, ◌<◌, length, get_or};
 ghost use Rattle.numbers.specs.Choice.{◌=?◌, pick};
 ghost use Rattle.numbers.specs.Lowest.{any};

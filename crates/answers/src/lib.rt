@@ -1,5 +1,7 @@
 // The answers of a command, one for each piece reached, behind those that were given before: the way in is `put_answers`. Nothing here
 // is refused: a caller proves that there is room for an answer to each CCW of the command.
+#![tactic(auto)]
+
 ghost use Rattle.std.specs.Prelude.{◌≡◌, ◌+◌, ◌-◌, ◌*◌, ◌≤◌, ◌<◌, length, set};
 ghost use Rattle.numbers.specs.Choice.{pick};
 ghost use Rattle.slices.specs.Parts.{zeros, put};

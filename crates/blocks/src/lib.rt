@@ -2,6 +2,8 @@
 // alternate to its own place (`bring_home`). Where no alternate is in use, blocks lie one after another, and a transfer is one part of the
 // store. Else it goes by windows of blocks: `places` tells where each lies, and those that lie in a row are one part. Nothing here is
 // refused: a caller proves that the blocks are the device's, and the bytes in the data area.
+#![tactic(auto)]
+
 ghost use Rattle.std.specs.Prelude.{◌≡◌, List, ℕ, ◌+◌, ◌*◌, ◌≤◌, ◌<◌, length, get_or, take};
 ghost use Rattle.slices.specs.Parts.{part, put, pad};
 ghost use Rattle.model.specs.Alternates.{map_size, alternate_of};

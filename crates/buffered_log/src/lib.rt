@@ -1,5 +1,7 @@
 // The counts of the unit record, and the log that shows them: `Log::of` is what READ AND RESET BUFFERED LOG sends.
 // Nothing here is refused; a count that is full stays full.
+#![tactic(auto)]
+
 ghost use Rattle.std.specs.Prelude.{◌≡◌, ◌<◌, length};
 ghost use Rattle.model.specs.Names.{sense_size};
 ghost use Rattle.model.specs.declared.record.Record.{Record};

@@ -1,5 +1,7 @@
 // DEFINE EXTENT: its sixteen bytes taken apart, and taken or refused (`define_parameters`; a refusal is a case of its answer, with
 // 01's number); and the command, `define_extent`. It changes no storage.
+#![tactic(auto)]
+
 ghost use Rattle.std.specs.Prelude.{◌≡◌, ◌≤◌, length};
 ghost use Rattle.numbers.specs.Bits.{bit};
 ghost use Rattle.model.specs.Rules.{first_of};

@@ -1,5 +1,7 @@
 // LOCATE: its eight bytes taken apart, and taken or refused (`locate_parameters`; a refusal is a case of its answer, with 01's
 // number); and the command, `locate`. It changes no storage and, but for a format, no map.
+#![tactic(auto)]
+
 ghost use Rattle.std.specs.Prelude.{◌≡◌, true, List, ℕ, ◌<◌, length};
 ghost use Rattle.numbers.specs.Choice.{one_of};
 ghost use Rattle.model.specs.Names.{LOCATE, format};
@@ -15,8 +17,8 @@ ghost use Rattle.endings.specs.Ending.{Performs};
 ghost use Rattle.command_locate.specs.Answers.{location_number, located_by, map_left};
 
 use alternates::{format_block, unused};
-use endings::{Ended, accept, refuse, refuse_parameters};
 use buffered_log::movement_counted;
+use endings::{Ended, accept, refuse, refuse_parameters};
 use model::decoded::Decoded;
 use model::device::Device;
 use model::extent::{Displacement, Extent, Located};

@@ -1,4 +1,6 @@
 // SENSE, SENSE TYPE and READ AND RESET BUFFERED LOG: the commands that send bytes of the unit itself to the data area.
+#![tactic(auto)]
+
 ghost use Rattle.std.specs.Prelude.{◌≡◌, List, ℕ, min, length, take};
 ghost use Rattle.model.specs.declared.device.Device.{Device};
 ghost use Rattle.model.specs.declared.record.UnitRecord.{UnitRecord};
@@ -9,8 +11,8 @@ ghost use Rattle.unit_state.specs.Standing.{holding, Handed};
 ghost use Rattle.endings.specs.Ending.{Performs};
 ghost use Rattle.command_sense.specs.Sent.{sent_end};
 
-use endings::{Ended, accept};
 use buffered_log::{Log, none_counted};
+use endings::{Ended, accept};
 use model::decoded::Decoded;
 use model::record::{Counts, Record};
 use model::state::Before;

@@ -1,4 +1,6 @@
 // READ, WRITE and READ IPL: the commands that move blocks. Each tests what stands before it, moves its blocks, and ends.
+#![tactic(auto)]
+
 ghost use Rattle.std.specs.Prelude.{◌≡◌, true, ◌≤◌, ◌<◌};
 ghost use Rattle.model.specs.declared.record.Record.{Record};
 ghost use Rattle.model.specs.Names.{READ, WRITE, READ_IPL};
@@ -11,8 +13,8 @@ ghost use Rattle.endings.specs.Ending.{Performs};
 ghost use Rattle.command_transfer.specs.Transferred.{Placed, move_of, read_end, written_by, write_end, ipl_end};
 
 use blocks::{begun, block_count, read_blocks, read_mapped, store_blocks};
-use endings::{Ended, accept, refuse};
 use buffered_log::{movement_counted, read_counted, written_counted};
+use endings::{Ended, accept, refuse};
 use model::decoded::Decoded;
 use model::device::Device;
 use model::extent::{Displacement, Extent, Offset};

@@ -1,5 +1,7 @@
 // How a command ends, accepted or refused: `end` makes its answer, and says how the unit is left. `accept` and `refuse` are the
 // two ways to it that most commands take.
+#![tactic(auto)]
+
 ghost use Rattle.std.specs.Prelude.{◌≡◌, ◌<◌};
 ghost use Rattle.endings.specs.Ending.{answer_words, wrong_told, wrong_by, end_of, accepted_end, parameters_refused, refused_end};
 

@@ -1,5 +1,7 @@
 // The run over a unit record that is lent and updated in place: `run`; `run_lending` lends it a record of its own. Neither has a
 // requires; a result is 256 times the cause plus the commands reached.
+#![tactic(auto)]
+
 ghost use Rattle.in_place.specs.Run.{InPlace, ByValue};
 
 use chain::call::{call, result_of};

@@ -1,5 +1,7 @@
 // What C calls: a chain run, a class of chains run, a unit record set up, an alternate given back. include/loughrella.h says it to a C
 // programmer. None has a requires: any slices get the result, and are left with the bytes, that the definition says.
+#![tactic(auto)]
+
 pub mod class;
 pub mod give_back;
 pub mod host;

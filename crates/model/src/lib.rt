@@ -1,4 +1,6 @@
 // The unit's own types. What they mean stands in specs/, the unit as a definition.
+#![tactic(auto)]
+
 pub mod answer;
 pub mod ccw;
 pub mod command;

@@ -1,5 +1,7 @@
 // How bytes are numbers: big-endian, as the unit's parameters and answers hold them.
 // Reads (`be2`, `be3`, `be4`, `number2`, `number3`) are exact; writes (`bytes2`, `bytes3`, `bytes4`) take the low bits, so they refuse nothing.
+#![tactic(auto)]
+
 ghost use Rattle.std.specs.Prelude.{◌≡◌, ◌+◌, ◌≤◌, ◌<◌, length};
 ghost use Rattle.numbers.specs.Big.{be2, be3, be4, bytes2, bytes3, bytes4};
 

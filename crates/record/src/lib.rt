@@ -1,6 +1,8 @@
 // The unit record, all but its map, and its 34 bytes, which stand before the map's: any 34 bytes are a record (`unpack`, `pack`), and what
 // a chain leaves goes to those that it found (`pack_left`) or makes another record (`record_left`). `new_record` is that of a new unit;
 // `same_sense` and `same_count` compare. Nothing is refused.
+#![tactic(auto)]
+
 ghost use Rattle.std.specs.Prelude.{◌≡◌, true, ◌+◌, ◌≤◌, length};
 ghost use Rattle.slices.specs.Parts.{part};
 ghost use Rattle.model.specs.Lent.{map_place, unit_bytes, record_of_lem, new_record};

@@ -1,4 +1,6 @@
 // The sense of a refusal, from one table indexed by cause; `Sense::of` is the way in. docs/SENSE.md says why each row is what it is.
+#![tactic(auto)]
+
 ghost use Rattle.std.specs.Prelude.{◌≡◌};
 ghost use Rattle.sense_table.specs.Sensed.{row_of, sense_showing, no_sense, sense_bytes};
 

@@ -1,4 +1,6 @@
 // How bytes move between slices, and within one: copied, cleared, put at a place. Nothing here is refused: a caller proves that what it names is there.
+#![tactic(auto)]
+
 ghost use Rattle.std.specs.Prelude.{◌≡◌, ◌+◌, ◌≤◌, min, length, take};
 ghost use Rattle.slices.specs.Parts.{zeros, part, put, most_copied};
 

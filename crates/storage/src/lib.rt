@@ -1,5 +1,7 @@
 // A command's data area in main storage: `fetch` reads from its front, `deliver` writes to its front, and no command does either by
 // itself; `skip` tells what is left of it. Nothing here is refused: the channel saw to it that the area is there.
+#![tactic(auto)]
+
 ghost use Rattle.std.specs.Prelude.{◌≡◌, ◌+◌, ◌≤◌, ◌<◌, length, take};
 ghost use Rattle.slices.specs.Parts.{put};
 ghost use Rattle.model.specs.Pieces.{counts, bytes_in, scattered};

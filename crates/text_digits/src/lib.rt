@@ -1,5 +1,7 @@
 // Numbers and bytes as text, added to an output (`add`, `add_decimal`, `add_hex`) and read from an input (`is_decimal`, `is_hex`, `decode`).
 // What does not fit an output is left out: nothing is refused, and a caller need not know how long a text is.
+#![tactic(auto)]
+
 ghost use Rattle.std.specs.Prelude.{◌≡◌, ◌+◌, ◌%◌, ◌≤◌, ◌<◌, length, [], ◌∷◌};
 ghost use Rattle.slices.specs.Parts.{most_copied};
 ghost use Rattle.text_digits.specs.Digits.{digit, decimal, six_digits, hex, value_of, is_hex, all_digits, bytes_in, same};

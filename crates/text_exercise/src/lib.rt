@@ -1,4 +1,6 @@
 // A chain as text, and what happened as text: `exercise`. Any input gets its answer; one with a wrong line gets that line's number.
+#![tactic(auto)]
+
 ghost use Rattle.std.specs.Prelude.{◌≡◌, ◌*◌, ◌≤◌, length};
 ghost use Rattle.slices.specs.Parts.{zeros};
 ghost use Rattle.model.specs.Chain.{call_of};

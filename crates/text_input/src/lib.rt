@@ -1,5 +1,7 @@
 // The input, line by line: whether it is right (`wrong_line`), and what a right one says (`settings_in`, `storage_in`, `chain_in`).
 // A line counts with the line feed that ends it.
+#![tactic(auto)]
+
 ghost use Rattle.std.specs.Prelude.{◌≡◌, [], ◌+◌, ◌-◌, ◌≤◌, ◌<◌, length, get_or, drop};
 ghost use Rattle.slices.specs.Parts.{part};
 ghost use Rattle.text_digits.specs.Digits.{bytes_in, six_digits};

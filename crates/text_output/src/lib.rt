@@ -1,4 +1,6 @@
 // What is printed of a call (`print`), and of an input with a wrong line (`print_refused`). A line goes to the output as far as it fits.
+#![tactic(auto)]
+
 ghost use Rattle.std.specs.Prelude.{[], ◌∷◌, ◌+◌, ◌*◌, ◌≤◌, length};
 ghost use Rattle.slices.specs.Parts.{most_copied};
 ghost use Rattle.model.specs.Answer.{answer_size};

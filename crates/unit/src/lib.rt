@@ -1,4 +1,6 @@
 // One command: the channel's tests, the unit's, then the command's own and what it does. `step` is the way in.
+#![tactic(auto)]
+
 ghost use Rattle.std.specs.Prelude.{◌≡◌};
 ghost use Rattle.model.specs.Names.{NO_OPERATION};
 ghost use Rattle.model.specs.Causes.{not_ready};

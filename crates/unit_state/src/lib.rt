@@ -1,5 +1,7 @@
 // What changes while a chain runs, beside the record that it found, and the state after a command. A command that leaves other
 // sense than none, or than what was found, ends the chain: its cause and its sense are then beside the state, in `Left`.
+#![tactic(auto)]
+
 ghost use Rattle.std.specs.Prelude.{◌≡◌};
 ghost use Rattle.unit_state.specs.Standing.{started, went_on_lem, with_extent, with_locate, passed_on_lem, sense_now};
 

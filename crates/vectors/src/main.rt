@@ -25,6 +25,8 @@
 // hexadecimal, so that cause 20 is 14), sense bytes 0, 1 and 7, of a refused call whether the record
 // was kept, and what was to be shown. Counts are blocks read, blocks written with check, access
 // movements.
+#![tactic(auto)]
+
 mod alternates;
 mod calls;
 mod ccws;
