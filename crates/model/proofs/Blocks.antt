@@ -128,7 +128,7 @@ module _ (dev : Device) (map : List ℕ) where
   blocks_into_more store block (suc m) n bytes =
       let e : block + 1 + m ≡ block + suc m = omega arith in
       let f : suc m * dev.block ≡ dev.block + m * dev.block = omega arith in
-      rw (suc-add m n, f, ← e, ← (drop-drop (m * dev.block) dev.block bytes)) (blocks_into_more _ (block + 1) m n (drop dev.block bytes))
+      rw (suc-add m n, f, ← e, ← (drop-drop (m * dev.block) dev.block bytes)) (blocks_into_more (put store (block_start dev map store block) (pad dev.block bytes)) (block + 1) m n (drop dev.block bytes))
 
   pub blocks_from_length : (store : List ℕ) (block n : ℕ) → block + n ≤ block_count dev store → length (blocks_from dev map store block n) ≡ n * dev.block
   unfolding blocks_from block_at
@@ -144,7 +144,7 @@ module _ (dev : Device) (map : List ℕ) where
       let f : suc n * dev.block ≡ dev.block + n * dev.block = omega arith in
       let less : dev.block + n * dev.block - dev.block ≡ n * dev.block = omega arith in
       rw (f, pad_take dev.block (dev.block + n * dev.block) bytes (omega arith), drop_take dev.block (dev.block + n * dev.block) bytes, less)
-      (blocks_into_enough _ (block + 1) n (drop dev.block bytes))
+      (blocks_into_enough (put store (block_start dev map store block) (pad dev.block bytes)) (block + 1) n (drop dev.block bytes))
 
   -- a row
 
@@ -194,7 +194,7 @@ module _ (dev : Device) (map : List ℕ) where
   blocks_into_length store block (suc n) bytes h =
       let e = put_long store block bytes (omega arith) in
       let c = count_same dev (put store (block_start dev map store block) (pad dev.block bytes)) store e in
-      blocks_into_length _ (block + 1) n (drop dev.block bytes) (rw c (omega arith)) ∙ e
+      blocks_into_length (put store (block_start dev map store block) (pad dev.block bytes)) (block + 1) n (drop dev.block bytes) (rw c (omega arith)) ∙ e
 
   pub place_kept : (store : List ℕ) (block n : ℕ) (bytes : List ℕ) (place : ℕ) → block + n ≤ block_count dev store → ((j : ℕ) → j < n → place_of_block dev map store (block + j) ≡ place → ⊥)
       → part (blocks_into dev map store block n bytes) (place * dev.block) dev.block ≡ part store (place * dev.block) dev.block
@@ -206,7 +206,7 @@ module _ (dev : Device) (map : List ℕ) where
       let off' : (j : ℕ) → j < n → place_of_block dev map (put store (block_start dev map store block) (pad dev.block bytes)) (block + 1 + j) ≡ place → ⊥
       = λ j b z. let g : block + 1 + j ≡ block + (1 + j) = omega arith in off (1 + j) (omega arith) (rw (g, c) at z) in
       let first : place_of_block dev map store block ≡ place → ⊥ = λ z. off 0 (omega arith) (rw (add-zero block) z) in
-      place_kept _ (block + 1) n (drop dev.block bytes) place (rw c (omega arith)) off' ∙ put_kept store block bytes place (omega arith) first
+      place_kept (put store (block_start dev map store block) (pad dev.block bytes)) (block + 1) n (drop dev.block bytes) place (rw c (omega arith)) off' ∙ put_kept store block bytes place (omega arith) first
 
   pub block_kept : (store : List ℕ) (block n : ℕ) (bytes : List ℕ) (other : ℕ) → block + n ≤ block_count dev store → other < block_count dev store → (other < block) ⊎ (block + n ≤ other)
       → block_at dev map (blocks_into dev map store block n bytes) other ≡ block_at dev map store other
@@ -233,7 +233,7 @@ module _ (dev : Device) (map : List ℕ) where
       let c = count_same dev (put store (block_start dev map store block) (pad dev.block bytes)) store (put_long store block bytes (omega arith)) in
       let f : suc i * dev.block ≡ dev.block + i * dev.block = omega arith in
       let g : block + suc i ≡ block + 1 + i = omega arith in
-      rw (f, g, ← (drop-drop (i * dev.block) dev.block bytes)) (block_stored _ (block + 1) n (drop dev.block bytes) i (rw c (omega arith)) (omega arith))
+      rw (f, g, ← (drop-drop (i * dev.block) dev.block bytes)) (block_stored (put store (block_start dev map store block) (pad dev.block bytes)) (block + 1) n (drop dev.block bytes) i (rw c (omega arith)) (omega arith))
 
 -- blocks of two devices, each with its map
 pub blocks_from_same : (dev : Device) (map map' store store' : List ℕ) (block block' n : ℕ) → ((i : ℕ) → i < n → block_at dev map store (block + i) ≡ block_at dev map' store' (block' + i))

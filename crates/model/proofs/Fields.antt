@@ -15,7 +15,7 @@ use borrow.Author.Tests.{eqb-true, ltb-true, ltb-false}
 use Rattle.numbers.specs.Bytes.{AreBytes}
 use Rattle.numbers.proofs.Bytes.{bytes_nil, bytes_cons, bytes_append, bytes_take, bytes_drop, bytes_tested}
 use Rattle.numbers.proofs.Big.{bytes2_are, bytes3_are, be2_fits}
-use Rattle.slices.specs.Parts.{zeros}
+use Rattle.slices.specs.Parts.{zeros, put, pad}
 use Rattle.slices.proofs.Laws.{length_zeros, length_put_is, bytes_zeros, bytes_part, bytes_put, bytes_pad}
 use Rattle.model.specs.declared.record.Record.{Record}
 use Rattle.model.specs.declared.device.Device.{Device}
@@ -23,7 +23,7 @@ use Rattle.model.specs.State.{State}
 use Rattle.numbers.specs.Choice.{◌<?◌}
 use Rattle.model.specs.Alternates.{map_entries, map_size}
 use Rattle.model.specs.Rules.{Rule, first_of}
-use Rattle.model.specs.Lent.{block_at, blocks_from, blocks_into}
+use Rattle.model.specs.Lent.{block_at, block_start, blocks_from, blocks_into}
 use Rattle.model.specs.Pieces.{Command, pieces, total, fetched, delivered}
 use Rattle.model.specs.Parameters.{locate_length, located_in}
 use Rattle.model.specs.Causes.{channel_causes, unit_causes, extent_causes, define_extent_causes, permission_causes, location_causes, locate_causes, read_ipl_causes, transfer_causes, own_causes, causes_of, verdict, kind_of}
@@ -163,7 +163,7 @@ blocks_into_bytes : (dev : Device) (map store : List ℕ) (block n : ℕ) (bytes
 unfolding blocks_into
 blocks_into_bytes dev map store block zero bytes b d = b
 blocks_into_bytes dev map store block (suc n) bytes b d =
-    blocks_into_bytes dev map _ (block + 1) n _ (bytes_put store _ _ b (bytes_pad dev.block bytes d)) (bytes_drop dev.block bytes d)
+    blocks_into_bytes dev map (put store (block_start dev map store block) (pad dev.block bytes)) (block + 1) n _ (bytes_put store _ _ b (bytes_pad dev.block bytes d)) (bytes_drop dev.block bytes d)
 
 -- bytes that k blocks hold begin no more than k
 pub begun_within : (dev : Device) (n k : ℕ) → 1 ≤ dev.block → n ≤ k * dev.block → begun dev n ≤ k

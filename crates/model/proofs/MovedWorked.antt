@@ -67,8 +67,8 @@ abbrev the_map : List ℕ
 the_map = entries (DEFECTIVE ∷ [])
 
 -- the extent that a main storage has the chain define
-abbrev extent_at_lem : ℕ → Extent
-extent_at_lem offset = extent_at chain 0 (lent offset 2)
+abbrev extent_from : ℕ → Extent
+extent_from offset = extent_at chain 0 (lent offset 2)
 
 abbrev define : Command
 define = command_at chain 0
@@ -125,6 +125,9 @@ off_tested at (p ∷ ps) e =
       off_tested at ps t.1,
     )
 
+settled : (f : ℕ → ℕ → Bool) (i k a b : ℕ) → a ≡ i → b ≡ k → f a b ≡ true → f i k ≡ true
+settled f i k a b p q h = rw (p, q) at h
+
 alone : ParametersAlone chain 0
 unfolding opened place_in off_test
 alone i c n k b =
@@ -132,11 +135,12 @@ alone i c n k b =
     = same_upto (λ j. j / 16 =? 0 || off_test (place_of define (j % 16)) (pieces (command_at chain (j / 16)))) (λ j. true) 96 refl in
     let i-is : (i * 16 + k) / 16 ≡ i = omega arith in
     let k-is : (i * 16 + k) % 16 ≡ k = omega arith in
-    off_tested (place_of define k) (pieces (command_at chain i)) (rw (i-is, k-is, ne_eqb i 0 n) at (off (i * 16 + k) (omega (arith, c.lent))))
+    let there = settled (λ a b. a =? 0 || off_test (place_of define b) (pieces (command_at chain a))) i k _ _ i-is k-is (off (i * 16 + k) (omega (arith, c.lent))) in
+    off_tested (place_of define k) (pieces (command_at chain i)) (rw (ne_eqb i 0 n) at there)
 
 -- all sentences but the one about mapped blocks, of the data set at offset 1 in one store and at 5 in another
 
-any_map : (map x x' : List ℕ) → length x ≡ length x' → HasRoom dev (extent_at_lem 1) x → HasRoom dev (extent_at_lem 5) x' → SameAlternates dev x x' → SameData dev (extent_at_lem 1) (extent_at_lem 5) map x map x'
+any_map : (map x x' : List ℕ) → length x ≡ length x' → HasRoom dev (extent_from 1) x → HasRoom dev (extent_from 5) x' → SameAlternates dev x x' → SameData dev (extent_from 1) (extent_from 5) map x map x'
     → MovedAnyMap dev chain 0 map (own (mains 1 2) x) (own (mains 5 2) x')
 unfolding opened
 any_map map x x' sizes room room' alternates same = record {
@@ -166,8 +170,8 @@ moved_pair =
     record {
       lent = any_map the_map x x' refl (omega arith) (omega arith) (λ i b. same_upto (λ i. alternate_at dev x i) (λ i. alternate_at dev x' i) 3 refl i b)
           (λ k b. same_upto (λ k. block_at dev the_map x (1 + k)) (λ k. block_at dev the_map x' (5 + k)) 2 refl k (omega arith));
-      unmapped = none_mapped (extent_at_lem 1) the_map refl refl;
-      unmapped' = none_mapped (extent_at_lem 5) the_map refl refl;
+      unmapped = none_mapped (extent_from 1) the_map refl refl;
+      unmapped' = none_mapped (extent_from 5) the_map refl refl;
     }
 
 -- what is looked at afterwards
@@ -223,13 +227,13 @@ abbrev map_left : ℕ → List ℕ → List ℕ
 map_left offset store = (call 3 chain (mains offset 2) store (new_record 1 0) mapped_there (replicate 88 0xFF)).map
 
 pub mapped_breaks : MovedAnyMap dev chain 0 mapped_there (own (mains 1 2) before_here) (own (mains 5 2) before_there)
-    × NoneMapped (extent_at_lem 1) mapped_there
-    × (SameMaps (extent_at_lem 1) (extent_at_lem 5) (map_left 1 before_here) (map_left 5 before_there) → ⊥)
+    × NoneMapped (extent_from 1) mapped_there
+    × (SameMaps (extent_from 1) (extent_from 5) (map_left 1 before_here) (map_left 5 before_there) → ⊥)
 unfolding opened
 mapped_breaks = (
   any_map mapped_there before_here before_there refl (omega arith) (omega arith) (λ i b. same_upto (λ i. alternate_at dev before_here i) (λ i. alternate_at dev before_there i) 3 refl i b)
       (λ k b. same_upto (λ k. block_at dev mapped_there before_here (1 + k)) (λ k. block_at dev mapped_there before_there (5 + k)) 2 refl k (omega arith)),
-  none_mapped (extent_at_lem 1) mapped_there refl refl,
+  none_mapped (extent_from 1) mapped_there refl refl,
   λ same.
       let numbers : ◌≡◌ {A = ℕ} 6 DEFECTIVE = ap (λ (n : Name). n.number) (same 0) in
       omega arith,

@@ -72,8 +72,8 @@ abbrev no_count : Line
 no_count = line (ccw SENSE 0 0x80 4 ++ ccw 0 0 0x00 0) (unused 4) 0 1 (answer 0 0x20 4 11 0 ++ unused 8 ++ unused 4)
 
 -- NO-OPERATION reaches its first piece alone, and the next command's answer follows
-abbrev no_operation_lem : Line
-no_operation_lem = line (ccw NO_OPERATION 0 0x80 5 ++ ccw 0x41 999999 0x40 7 ++ ccw NO_OPERATION 0 0x00 1) [] 0 2 (answer 0x0C 0 5 0 0 ++ answer 0x0C 0 1 0 0 ++ unused 8)
+abbrev nop_line : Line
+nop_line = line (ccw NO_OPERATION 0 0x80 5 ++ ccw 0x41 999999 0x40 7 ++ ccw NO_OPERATION 0 0x00 1) [] 0 2 (answer 0x0C 0 5 0 0 ++ answer 0x0C 0 1 0 0 ++ unused 8)
 
 -- 36, after eight bytes of ten in two pieces were read
 abbrev refused : Line
@@ -106,7 +106,7 @@ lines =
     ∷ ipl_reads
     ∷ not_chained
     ∷ no_count
-    ∷ no_operation_lem
+    ∷ nop_line
     ∷ refused
     ∷ driver_reads
     ∷ driver_writes

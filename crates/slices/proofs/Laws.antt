@@ -178,9 +178,9 @@ drop_put l at bytes n e h = rw e (drop_at (take at l ++ bytes) _ (at + n) (put_e
 -- put at the front
 
 -- all of `bytes` is copied over the front of l
-pub put_copied : (l bytes : List ℕ) → take (length bytes) bytes ++ drop (length bytes) l ≡ put l 0 bytes
+pub put_copied : (l bytes : List ℕ) → bytes ++ drop (length bytes) l ≡ put l 0 bytes
 unfolding put
-put_copied l bytes = rw (take-length, zero-add)
+put_copied l bytes = rw zero-add refl
 
 -- what was copied to the front is what the front has
 pub front_put : (l bytes : List ℕ) (n : ℕ) → n ≤ length bytes → n ≤ length l → take n (put l 0 (take n bytes)) ≡ take n bytes
