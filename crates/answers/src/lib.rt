@@ -43,7 +43,7 @@ fn put_answer(answers: &mut [u8], i: usize, a: Answer, wrong: bool)
 }
 
 // The pieces that are filled, and what is left of the count of the next one, the last that is reached.
-#[derive(Drop)]
+#[derive(Clone, Copy)]
 struct Spread {
     filled: usize,
     residual: usize,

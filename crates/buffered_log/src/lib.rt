@@ -67,7 +67,7 @@ pub fn none_counted() -> Counts
     }
 }
 
-#[derive(Drop)]
+#[derive(Clone, Copy)]
 pub struct Log(pub [u8; sizes::SENSE]);
 
 // Where each thing stands in a log.

@@ -33,7 +33,7 @@ pub fn run_allowed(
 }
 
 // What a call gives by value.
-#[derive(Drop)]
+#[derive(Clone, Copy)]
 pub struct Returned {
     pub cause: u8,
     pub reached: usize,

@@ -29,7 +29,7 @@ fn goes_on(last: Flags, cause: u8, wrong: bool) -> bool
 }
 
 // How one turn leaves the unit, the CCW behind its command, how many answers there are, and whether the chain goes on.
-#[derive(Drop)]
+#[derive(Clone, Copy)]
 pub struct Turn {
     pub left: Left,
     pub end: usize,
@@ -67,7 +67,7 @@ fn one_turn(
 }
 
 // How a run leaves the unit, and how many answers were given.
-#[derive(Drop)]
+#[derive(Clone, Copy)]
 pub struct Walked {
     pub left: Left,
     pub reached: usize,

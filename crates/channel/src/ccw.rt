@@ -38,7 +38,7 @@ pub fn next_piece(chain: &[u8], a: Area) -> Area
 }
 
 // The CCWs of a command: the one behind the last, the sum of the counts, and the flags of the last.
-#[derive(Drop)]
+#[derive(Clone, Copy)]
 struct Ccws {
     end: usize,
     count: usize,

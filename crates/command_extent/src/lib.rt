@@ -25,7 +25,7 @@ use model::state::Before;
 use storage::fetch;
 use unit_state::{Running, extent_set};
 
-#[derive(Drop)]
+#[derive(Clone, Copy)]
 pub enum Defined {
     Taken,
     BadMask,

@@ -27,7 +27,7 @@ use model::{operation, sizes};
 use storage::fetch;
 use unit_state::{Running, locate_set};
 
-#[derive(Drop)]
+#[derive(Clone, Copy)]
 pub enum Location {
     Found,
     BadModifier,

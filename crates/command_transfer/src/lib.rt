@@ -63,7 +63,7 @@ fn transfer_cause(s: Running, follows: bool) -> u8
 }
 
 // What a transfer moves: from which block, how many bytes it can, and how many it does.
-#[derive(Drop)]
+#[derive(Clone, Copy)]
 pub struct Move {
     pub block: usize,
     pub can: usize,

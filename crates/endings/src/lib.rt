@@ -14,14 +14,14 @@ use unit_state::{Left, Running, carried};
 
 // Its bytes as two numbers: unit status, channel status, residual count (2), which is 0 until the pieces reached are known; cause, zero,
 // blocks moved (2).
-#[derive(Drop)]
+#[derive(Clone, Copy)]
 pub struct Answer {
     pub front: usize,
     pub back: usize,
 }
 
 // `moved`: so many bytes, over the pieces of the command. `wrong`: so is the length, which the channel marks in the answer.
-#[derive(Drop)]
+#[derive(Clone, Copy)]
 pub struct Ended {
     pub left: Left,
     pub answer: Answer,

@@ -9,7 +9,7 @@ use model::device::Device;
 use model::record::UnitRecord;
 
 // What a run gives back by value.
-#[derive(Drop)]
+#[derive(Clone, Copy)]
 pub struct Ran {
     pub unit: UnitRecord,
     pub code: u32,

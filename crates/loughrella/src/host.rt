@@ -35,7 +35,7 @@ pub fn host_cause(
 }
 
 // What a call gives: its cause, and the commands reached.
-#[derive(Drop)]
+#[derive(Clone, Copy)]
 pub struct Reached {
     pub cause: u8,
     pub answers: usize,

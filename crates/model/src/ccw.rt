@@ -5,7 +5,7 @@ ghost use Rattle.model.specs.Names.{chain_data, chain_command, suppress_length};
 ghost use Rattle.model.specs.Causes.{other_flags};
 
 // CCW byte 4.
-#[derive(Drop)]
+#[derive(Clone, Copy)]
 pub struct Flags(pub u8);
 
 impl Flags {
@@ -45,7 +45,7 @@ impl Flags {
     }
 }
 
-#[derive(Drop)]
+#[derive(Clone, Copy)]
 pub struct Piece {
     pub address: usize,
     pub count: usize,

@@ -2,7 +2,7 @@
 use crate::ccw::{Flags, Piece};
 
 // A data area: its first piece, and the CCWs of the pieces behind it, from `next` up to `end`. What is behind a piece is an area again.
-#[derive(Drop)]
+#[derive(Clone, Copy)]
 pub struct Area {
     pub piece: Piece,
     pub next: usize,
@@ -10,7 +10,7 @@ pub struct Area {
 }
 
 // The command's own byte, the flags of its last piece, the sum of its counts, and its data area.
-#[derive(Drop)]
+#[derive(Clone, Copy)]
 pub struct Decoded {
     pub area: Area,
     pub count: usize,

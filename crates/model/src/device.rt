@@ -4,7 +4,7 @@ ghost use Rattle.model.specs.Chain.{class_a};
 
 use crate::sizes;
 
-#[derive(Drop)]
+#[derive(Clone, Copy)]
 pub struct Device {
     // the bytes of a block
     pub block: usize,

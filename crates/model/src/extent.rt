@@ -3,14 +3,14 @@ ghost use Rattle.std.specs.Prelude.{◌≡◌, ◌≤◌};
 ghost use Rattle.model.specs.Parameters.{address};
 
 // Counts from the device's first block.
-#[derive(Drop)]
+#[derive(Clone, Copy)]
 pub struct Offset(pub u32);
 
 // Counts from the data set's first block.
-#[derive(Drop)]
+#[derive(Clone, Copy)]
 pub struct Displacement(pub u32);
 
-#[derive(Drop)]
+#[derive(Clone, Copy)]
 pub struct Extent {
     pub mask: u32,
     pub offset: Offset,
@@ -29,7 +29,7 @@ impl Extent {
     }
 }
 
-#[derive(Drop)]
+#[derive(Clone, Copy)]
 pub struct Located {
     pub operation: u32,
     pub displacement: Displacement,

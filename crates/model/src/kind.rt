@@ -3,7 +3,7 @@ ghost use Rattle.std.specs.Prelude.{◌≡◌};
 ghost use Rattle.model.specs.Causes.{kind_of};
 
 // Accepted, or refused: by the channel, or by the unit.
-#[derive(Drop)]
+#[derive(Clone, Copy)]
 pub enum Kind {
     Accepted,
     ProgramCheck,

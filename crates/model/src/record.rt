@@ -2,7 +2,7 @@
 // it stays where it is lent.
 use crate::sizes;
 
-#[derive(Drop)]
+#[derive(Clone, Copy)]
 pub struct Record {
     pub sense: [u8; sizes::SENSE],
     pub blocks_read: [u8; 3],
@@ -13,14 +13,14 @@ pub struct Record {
 }
 
 // The unit record as callers hold it: all but the map, and the map of its alternates.
-#[derive(Drop)]
+#[derive(Clone, Copy)]
 pub struct UnitRecord {
     pub unit: Record,
     pub map: [u8; sizes::MAP],
 }
 
 // The counts of a record.
-#[derive(Drop)]
+#[derive(Clone, Copy)]
 pub struct Counts {
     pub blocks_read: [u8; 3],
     pub blocks_written: [u8; 3],

@@ -1,5 +1,5 @@
 // The command directly before, as far as the next one depends on it.
-#[derive(Drop)]
+#[derive(Clone, Copy)]
 pub enum Before {
     Nothing,
     ReadIpl,

@@ -5,7 +5,7 @@ ghost use Rattle.model.specs.Answer.{unit_status, channel_by};
 use crate::kind::Kind;
 
 // What the unit presents, gathered over a command.
-#[derive(Drop)]
+#[derive(Clone, Copy)]
 pub struct UnitStatus(pub u8);
 
 impl UnitStatus {
@@ -30,7 +30,7 @@ impl UnitStatus {
 }
 
 // What the channel adds; a wrong length, later.
-#[derive(Drop)]
+#[derive(Clone, Copy)]
 pub struct ChannelStatus(pub u8);
 
 impl ChannelStatus {

@@ -9,7 +9,7 @@ use numbers::bytes3;
 use slices::put_at;
 
 // Sense bytes 0, 1 and 7, side by side in one number.
-#[derive(Drop)]
+#[derive(Clone, Copy)]
 pub struct SenseRow(pub u32);
 
 const NO_SENSE: SenseRow = SenseRow(0x00_00_00);
@@ -80,7 +80,7 @@ fn row_of(cause: u8) -> SenseRow
 }
 
 // The sense that a command leaves: bytes 0 to 7 by the table, 8 to 15 the parameters that its cause shows. The other eight are zeros.
-#[derive(Drop)]
+#[derive(Clone, Copy)]
 pub struct Sense {
     pub head: [u8; Sense::PARAMETERS],
     pub parameters: [u8; sizes::LOCATE],

@@ -31,7 +31,7 @@ const STORAGE_KEY: usize = 8;
 const CCW_KEY: usize = 4;
 
 // What the lines before storage say.
-#[derive(Drop)]
+#[derive(Clone, Copy)]
 pub struct Settings {
     pub blocks: usize,
     pub ready: u8,
@@ -39,7 +39,7 @@ pub struct Settings {
 }
 
 // Where a line stands in the input.
-#[derive(Drop)]
+#[derive(Clone, Copy)]
 struct Line {
     at: usize,
     end: usize,

@@ -12,7 +12,7 @@ use model::state::Before;
 use sense_table::Sense;
 
 // `kept`: the pending sense is still what the chain found; else there is none.
-#[derive(Drop)]
+#[derive(Clone, Copy)]
 pub struct Running {
     pub extent: Extent,
     pub located: Located,
@@ -143,7 +143,7 @@ pub fn carried(s: Running) -> Running
 
 // How a command leaves the unit, or a chain: the state, the cause by which it was refused, or 0, and the sense of that cause.
 // A refused command has the state here that it found.
-#[derive(Drop)]
+#[derive(Clone, Copy)]
 pub struct Left {
     pub state: Running,
     pub sense: Sense,

@@ -38,7 +38,7 @@ const LARGE_STORE: usize = 66 * sizes::BLOCK;
 const MAP: usize = 256;
 
 // A vector's number in print.
-#[derive(Drop)]
+#[derive(Clone, Copy)]
 pub struct Id {
     pub group: u64,
     pub number: u64,

@@ -8,7 +8,7 @@ use model::sizes;
 const OWN_DEVICE: u64 = 0x80;
 
 // What a vector says about its device: alternates, bytes of store, and where in the map its words of the map go.
-#[derive(Drop)]
+#[derive(Clone, Copy)]
 pub struct Device {
     pub alternates: u32,
     pub store: usize,
@@ -19,7 +19,7 @@ pub struct Device {
 }
 
 // What a vector's first word says, its device, and where in the table its parts begin.
-#[derive(Drop)]
+#[derive(Clone, Copy)]
 pub struct Vector {
     pub setting: u64,
     pub device: Device,

@@ -1,0 +1,23 @@
+-- `alternates::flag_old` meets its contract: the alternate where the block lay is flagged, if there is one. Assumes nothing.
+use Prim.Native.Nat.{ℕ, ◌≤◌, ◌<◌}
+use mathlib.Core.Path.{◌≡◌, sym, ◌∙◌}
+use mathlib.Core.List.{List}
+use borrow.Author.Tests.{lt-ltb, le-ltb}
+use Rattle.numbers.proofs.Choice.{pick_true, pick_false}
+use Rattle.model.specs.Names.{DEFECTIVE}
+use Rattle.model.specs.Alternates.{with_entry, alternate_of, flagged}
+use Rattle.alternates.proofs.flag_old.Goals as goal
+
+mapped : (map : List ℕ) (alternates block old : ℕ) → old ≡ alternate_of map alternates block → old < alternates → flagged map alternates block ≡ with_entry map old DEFECTIVE
+unfolding flagged
+mapped map alternates block old e l = rw (← e) (pick_true _ _ _ (lt-ltb old alternates l))
+
+not-mapped : (map : List ℕ) (alternates block old : ℕ) → old ≡ alternate_of map alternates block → alternates ≤ old → flagged map alternates block ≡ map
+unfolding flagged
+not-mapped map alternates block old e l = rw (← e) (pick_false _ _ _ (le-ltb old alternates l))
+
+pub returns-then-old-alternates : goal.returns-then-old-alternates
+returns-then-old-alternates c = c.put_entry.ensures ∙ sym (mapped _ _ _ _ c.alternate_of-old.ensures c.if-old-alternates.true)
+
+pub returns-else-old-alternates : goal.returns-else-old-alternates
+returns-else-old-alternates c = sym (not-mapped _ _ _ _ c.alternate_of-old.ensures c.if-old-alternates.false)
