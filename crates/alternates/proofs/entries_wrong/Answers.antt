@@ -33,8 +33,8 @@ loop-i-preserved c =
       met_more c.args.map.now _ l.met _ l.invariant.3 c.entry_at-e.ensures.0 l.invariant.1,
     )
 
-pub returns-then-entry_wrong : goal.returns
+pub returns : goal.returns
 unfolding bad_map
-returns-then-entry_wrong c =
+returns c =
     let l = c.loop-i in
     sym (any_none _ _ (λ k b. l.invariant.2 k (omega arith)))

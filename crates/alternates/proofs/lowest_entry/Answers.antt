@@ -22,7 +22,7 @@ pub loop-i-preserved : goal.loop-i-preserved
 loop-i-preserved c =
     (search rules, below_more _ _ c.loop-i.invariant.1 (ne_eqb _ _ (λ z. c.if-entry_at-e.false (c.entry_at.ensures.0 ∙ z))))
 
-pub returns-then-entry_at-e : goal.returns
-returns-then-entry_at-e c =
+pub returns : goal.returns
+returns c =
     let l = c.loop-i in
     sym (lowest_none _ _ (λ k b. l.invariant.1 k (omega arith)))

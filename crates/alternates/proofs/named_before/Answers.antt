@@ -22,7 +22,7 @@ pub loop-j-preserved : goal.loop-j-preserved
 loop-j-preserved c =
     (search rules, below_more _ _ c.loop-j.invariant.1 (ne_eqb _ _ (λ z. c.if-entry_at-e.false (c.entry_at.ensures.0 ∙ z))))
 
-pub returns-then-entry_at-e : goal.returns
-returns-then-entry_at-e c =
+pub returns : goal.returns
+returns c =
     let l = c.loop-j in
     sym (any_none _ _ (λ k b. l.invariant.1 k (omega arith)))

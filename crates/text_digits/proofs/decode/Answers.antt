@@ -14,7 +14,7 @@ pub loop-i-preserved : goal.loop-i-preserved
 loop-i-preserved c =
     let l = c.loop-i in
     let a = c.args in
-    (search rules, search rules, search rules, search rules, decoded a.text.now l.to l.i _ _ l.invariant.4 (search rules) (omega arith) (ap2 c.value_of_lem.ensures.0 c.value_of-in-loop-i.ensures.0))
+    (search rules, search rules, search rules, search rules, decoded a.text.now l.to l.i _ _ l.invariant.4 (search rules) (omega arith) (ap2 c.value_of.ensures.0 c.value_of-in-loop-i.ensures.0))
 
 pub returns : goal.returns
 returns c =

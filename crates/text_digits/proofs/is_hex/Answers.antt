@@ -7,6 +7,6 @@ pub returns-then-text-ne0 : goal.returns-then-text-ne0
 unfolding is_hex
 returns-then-text-ne0 c = simp (ne_eqb _ _ c.if-text-ne0.true)
 
-pub returns-then-text-ne0 : goal.returns
+pub returns : goal.returns
 unfolding is_hex
-returns-then-text-ne0 c = simp (eq-eqb _ _ c.if-text-ne0.false) c.all_digits.ensures
+returns c = simp (eq-eqb _ _ c.if-text-ne0.false) c.all_digits.ensures

@@ -6,7 +6,7 @@ use mathlib.Core.Path.{ap, ◌∙◌}
 use mathlib.Core.List.{[]}
 use lib.ListN.{length}
 use Rattle.model.specs.declared.record.Record.{Record}
-use Rattle.buffered_log.proofs.Stores.{log_length, log_stored}
+use Rattle.buffered_log.proofs.Stores.{Arrays, log_length, log_stored}
 use Rattle.buffered_log.proofs.Log.of.Goals as goal
 
 -- any record has a log of 24 bytes
@@ -18,18 +18,18 @@ pub slice_bounds-put_at-end-2 : goal.slice_bounds-put_at-end-2
 slice_bounds-put_at-end-2 c = search rules
 
 pub put_at-requires : goal.put_at-requires
-put_at-requires c = omega (arith, (record { read = search rules; written = search rules; movements = search rules }))
+put_at-requires c = omega (arith, (let arrays_here : Arrays c.args.k = record { read = search rules; written = search rules; movements = search rules } in arrays_here))
 
 pub put_at-requires-2 : goal.put_at-requires-2
-put_at-requires-2 c = omega (arith, (record { read = search rules; written = search rules; movements = search rules }))
+put_at-requires-2 c = omega (arith, (let arrays_here : Arrays c.args.k = record { read = search rules; written = search rules; movements = search rules } in arrays_here))
 
 pub put_at-requires-3 : goal.put_at-requires-3
-put_at-requires-3 c = omega (arith, (record { read = search rules; written = search rules; movements = search rules }))
+put_at-requires-3 c = omega (arith, (let arrays_here : Arrays c.args.k = record { read = search rules; written = search rules; movements = search rules } in arrays_here))
 
 pub returns : goal.returns
 returns c =
-    let stored : (u : Record) → _ = λ u. log_stored u _ _ _ _ ((record { read = search rules; written = search rules; movements = search rules })) c.put_at.ensures c.put_at-2.ensures c.put_at-3.ensures in
+    let stored : (u : Record) → _ = λ u. log_stored u _ _ _ _ ((let arrays_here : Arrays c.args.k = record { read = search rules; written = search rules; movements = search rules } in arrays_here)) c.put_at.ensures c.put_at-2.ensures c.put_at-3.ensures in
     record {
       shows = stored;
-      long = ap length (stored empty) ∙ log_length empty _ ((record { read = search rules; written = search rules; movements = search rules }));
+      long = ap length (stored empty) ∙ log_length empty _ ((let arrays_here : Arrays c.args.k = record { read = search rules; written = search rules; movements = search rules } in arrays_here));
     }
