@@ -63,8 +63,8 @@ fn entry_wrong(
     e: usize,
     met: bool,
 ) -> bool
-    requires map_len { (length map.now ≡ map_size) × (i < map_entries) × (e ≡ entry_at map.now i) }
-    requires i_value { met ≡ false → any (λ j. entry_at map.now j =? e) i ≡ false }
+    requires entry { (length map.now ≡ map_size) × (i < map_entries) × (e ≡ entry_at map.now i) }
+    requires unmet { met ≡ false → any (λ j. entry_at map.now j =? e) i ≡ false }
     ensures { result ≡ bad_entry map.now alternates primaries i }
 {
     if e == UNUSED {

@@ -18,7 +18,10 @@ loop-i-init c = (search rules, search rules, below_none _, below_none _)
 pub entry_wrong-requires : goal.entry_wrong-requires
 entry_wrong-requires c =
     let l = c.loop-i in
-    (search rules, λ z. met_none _ _ l.met c.entry_at-e.result l.invariant.3 (eqb-true _ _ (not-false _ z)))
+    record {
+      entry = search rules;
+      unmet = λ z. met_none _ _ l.met c.entry_at-e.result l.invariant.3 (eqb-true _ _ (not-false _ z));
+    }
 
 pub returns-then-entry_wrong : goal.returns-then-entry_wrong
 unfolding bad_map
