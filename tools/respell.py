@@ -9,6 +9,7 @@ sources, in the must-fail edits, and in the pages where the name stands in backq
 With --dry it prints the new names, and those that fall together.
 """
 
+import copy
 import os
 import re
 import subprocess
@@ -111,7 +112,9 @@ class Turn:
         return "\n".join(out)
 
     def source(self, text):
-        """A .rt file: its imports of definitions and its clauses; in comments what stands in backquotes or has a capital inside."""
+        """A .rt file: its imports of definitions and its clauses; in comments what stands in backquotes. It names no law."""
+        self = copy.copy(self)
+        self.names = {n: new for n, new in self.names.items() if n not in LAWS} | {n: n for n in LAWS}
         text = re.sub(r"ghost use [^;]*;", lambda m: self.code(m.group(0)), text)
         out, depth = [], 0
         for line in text.split("\n"):

@@ -5,28 +5,24 @@
 --     unit_left_lem              what a chain leaves of a record: another sense, other counts, and the rest as it was
 --     left_stored            of `pack_left`: the record that is left
 -- No contract cites this file.
-use Prim.{tt}
 use Prim.Native.Nat.{ℕ, ◌+◌, ◌≤◌}
 use mathlib.Core.Path.{◌≡◌, refl, sym, ap, ◌∙◌}
-use mathlib.Core.Logic.{inr}
+use mathlib.Core.Logic.{◌⊎◌, inl, inr}
 use mathlib.Core.List.{List, [], ◌∷◌, ◌++◌, append_assoc}
 use native.Mathlib.Nat.{zero-add, le_of_eq}
 use native.Mathlib.Omega.{arith}
 use lib.ListN.{length, get_or, set, take, drop, length-append, length-set, drop_of_length-le}
 use lib.Seq.{take_all, drop-cons, get_or-set_same, get_or-set_other}
-use types.Run.{OneOf, miss}
-use denote.Enum.Declared.{tag_of}
 use Rattle.slices.specs.Parts.{part, put}
 use Rattle.slices.proofs.Laws.{put_more, get_after, part_put, part_apart}
 use Rattle.model.specs.declared.kind.Kind.{Kind}
-use Rattle.model.specs.declared.kind.Kind.TheVariants.{Accepted, ProgramCheck, UnitCheck}
+use Rattle.model.specs.declared.kind.Kind.TheVariants.{Accepted, ProgramCheck}
 use Rattle.model.specs.declared.record.Record.{Record}
 use Rattle.model.specs.State.{State}
 use Rattle.model.specs.Causes.{kind_of}
 use Rattle.model.specs.Log.{with_sense, with_counts}
 use Rattle.model.specs.Commands.{after, leaves}
 use Rattle.model.specs.Lent.{unit_bytes, record_of}
-use Rattle.model.specs.contracts.kind.Kind.{the_type}
 use Rattle.model.proofs.Leaving.{leaves_ind}
 use Rattle.buffered_log.specs.Counts.{counted}
 use Rattle.sense_table.specs.Sensed.{sense_bytes}
@@ -77,15 +73,14 @@ pub sense_made : (k : Kind) (u : Record) (l : Left) → k ≡ kind_of l.cause �
 unfolding after with_sense
 sense_made k u l e f = ap (λ (q : Kind). (leaves q (state_of (holding u []) l.state) (sense_bytes l.sense)).unit.sense) (sym e ∙ f)
 
--- 0 and 1 are the keys of the kinds that are no unit check
-pub sense_is : (k : Kind) (u : Record) (l : Left) → k ≡ kind_of l.cause → OneOf (0 ∷ 1 ∷ []) (tag_of the_type k) → (unit_left u l).sense ≡ sense_now u.sense l.state.kept
+-- the kinds that are no unit check
+pub sense_is : (k : Kind) (u : Record) (l : Left) → k ≡ kind_of l.cause → (k ≡ Accepted) ⊎ (k ≡ ProgramCheck) → (unit_left u l).sense ≡ sense_now u.sense l.state.kept
 unfolding after state_of unit_of counted with_counts with_sense
-sense_is k u l e h = ap (λ (q : Kind). (leaves q (state_of (holding u []) l.state) (sense_bytes l.sense)).unit.sense) (sym e) ∙ go k h
+sense_is k u l e h = ap (λ (q : Kind). (leaves q (state_of (holding u []) l.state) (sense_bytes l.sense)).unit.sense) (sym e) ∙ go h
   where
-    go : (k : Kind) → OneOf (0 ∷ 1 ∷ []) (tag_of the_type k) → (leaves k (state_of (holding u []) l.state) (sense_bytes l.sense)).unit.sense ≡ sense_now u.sense l.state.kept
-    go Accepted h = refl
-    go ProgramCheck h = refl
-    go UnitCheck h = absurd (miss (0 ∷ 1 ∷ []) 2 tt h)
+    go : (k ≡ Accepted) ⊎ (k ≡ ProgramCheck) → (leaves k (state_of (holding u []) l.state) (sense_bytes l.sense)).unit.sense ≡ sense_now u.sense l.state.kept
+    go (inl p) = rw p refl
+    go (inr p) = rw p refl
 
 pub unit_left_lem : (u : Record) (l : Left) → unit_left u l ≡ counted (with_sense u (unit_left u l).sense) l.state.counts
 unfolding state_of unit_of counted with_counts with_sense after

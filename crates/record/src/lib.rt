@@ -5,10 +5,10 @@
 
 ghost use Rattle.std.specs.Prelude.{◌≡◌, true, ◌+◌, ◌≤◌, length};
 ghost use Rattle.slices.specs.Parts.{part};
-ghost use Rattle.model.specs.Lent.{map_place, unit_bytes, record_of_lem, new_record};
+ghost use Rattle.model.specs.Lent.{map_place, unit_bytes, record_of, new_record};
 ghost use Rattle.model.specs.Log.{with_counts};
 ghost use Rattle.model.specs.Names.{sense_size};
-ghost use Rattle.unit_state.specs.Standing.{unit_left_lem};
+ghost use Rattle.unit_state.specs.Standing.{unit_left};
 
 use model::kind::Kind;
 use model::record::Record;

@@ -3,7 +3,7 @@
 #![tactic(auto)]
 
 ghost use Rattle.std.specs.Prelude.{◌≡◌};
-ghost use Rattle.unit_state.specs.Standing.{started, went_on_lem, with_extent, with_locate, passed_on_lem, sense_now};
+ghost use Rattle.unit_state.specs.Standing.{started, went_on, with_extent, with_locate, passed_on, sense_now};
 
 use model::extent::{Displacement, Extent, Located, Offset};
 use model::record::{Counts, Record};

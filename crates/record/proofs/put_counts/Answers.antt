@@ -1,0 +1,8 @@
+-- `put_counts` meets its contract. Assumes nothing.
+use borrow.Author.Rules.{rules}
+use Rattle.record.proofs.Stores.{counts_stored}
+use Rattle.record.proofs.put_counts.Goals as goal
+
+pub returns : goal.returns
+returns c =
+    counts_stored _ _ _ _ _ _ _ (search rules) (search rules) (search rules) c.requires c.put_at.ensures c.put_at-2.ensures c.put_at-3.ensures
