@@ -16,7 +16,7 @@ use lib.Seq.{take_all, drop-cons, get_or-set_same, get_or-set_other}
 use Rattle.slices.specs.Parts.{part, put}
 use Rattle.slices.proofs.Laws.{put_more, get_after, part_put, part_apart}
 use Rattle.model.specs.declared.kind.Kind.{Kind}
-use Rattle.model.specs.declared.kind.Kind.TheVariants.{Accepted, ProgramCheck}
+use Rattle.model.specs.declared.kind.Kind.TheVariants.{Accepted, ProgramCheck, UnitCheck}
 use Rattle.model.specs.declared.record.Record.{Record}
 use Rattle.model.specs.State.{State}
 use Rattle.model.specs.Causes.{kind_of}

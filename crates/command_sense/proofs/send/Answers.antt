@@ -1,0 +1,19 @@
+-- `send` meets its contract. Assumes nothing.
+use Rattle.model.specs.Pieces.{delivered}
+use native.Mathlib.Omega.{arith}
+use Rattle.command_sense.proofs.send.Goals as goal
+
+pub deliver-requires : goal.deliver-requires
+deliver-requires c =
+    let n = c.least-n.ensures in
+    let h = c.requires in
+    (record { ccws = h.told.ccws; inside = h.inside; left = omega (arith, n, h.told.count) }, omega (arith, n))
+
+pub returns : goal.returns
+unfolding delivered
+returns c =
+    let n = c.least-n.ensures in
+    record {
+      sent = rw n at c.deliver.ensures;
+      end = rw (c.after.ensures, n) at c.accept.ensures;
+    }

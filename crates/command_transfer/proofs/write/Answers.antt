@@ -1,0 +1,23 @@
+-- `write` meets its contract, as `read` does. Assumes nothing.
+use borrow.Author.Rules.{rules}
+use Rattle.model.specs.Parameters.{writes}
+use Rattle.command_transfer.proofs.Transfers.{placed, writing, transfer_refused, Passed, passed, move_asks, done_asks, write_ends}
+use Rattle.command_transfer.proofs.write.Goals as goal
+
+pub returns-then-cause-ne0 : goal.returns-then-cause-ne0
+returns-then-cause-ne0 c =
+    transfer_refused (writing c.requires) c.writes.ensures c.transfer_cause-cause.ensures c.if-cause-ne0.true c.refuse.ensures
+
+pub located_move-m-requires : goal.located_move-m-requires
+located_move-m-requires c = let p = (let through_here : let a = c.args in Passed writes a.d a.chain.now a.c a.s a.main.now a.store.now a.map.now = passed (writing c.requires) c.writes.ensures c.transfer_cause-cause.ensures c.if-cause-ne0.false in through_here) in placed _ _ _ _ p.transfer.sound p.located
+
+pub store_blocks-requires : goal.store_blocks-requires
+store_blocks-requires c = move_asks ((let through_here : let a = c.args in Passed writes a.d a.chain.now a.c a.s a.main.now a.store.now a.map.now = passed (writing c.requires) c.writes.ensures c.transfer_cause-cause.ensures c.if-cause-ne0.false in through_here)) c.located_move-m.ensures
+
+pub write_done-requires : goal.write_done-requires
+write_done-requires c =
+    done_asks ((let through_here : let a = c.args in Passed writes a.d a.chain.now a.c a.s a.main.now a.store.now a.map.now = passed (writing c.requires) c.writes.ensures c.transfer_cause-cause.ensures c.if-cause-ne0.false in through_here)) c.located_move-m.ensures (search (rules, c.struct_known-1))
+
+pub returns : goal.returns
+returns c =
+    write_ends ((let through_here : let a = c.args in Passed writes a.d a.chain.now a.c a.s a.main.now a.store.now a.map.now = passed (writing c.requires) c.writes.ensures c.transfer_cause-cause.ensures c.if-cause-ne0.false in through_here)) c.requires.2 c.write_done.ensures c.located_move-m.ensures c.store_blocks.ensures
