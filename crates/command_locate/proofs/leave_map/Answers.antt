@@ -13,7 +13,7 @@ unfolding map_after
 returns-then-l-ne-FORMAT c = sym (pick_false _ _ _ (ne_eqb _ _ c.if-l-ne-FORMAT.true))
 
 pub address-block-requires : goal.address-block-requires
-address-block-requires c = c.requires.1.from_First
+address-block-requires c = c.requires.1.from_first
 
 pub format_block-requires : goal.format_block-requires
 format_block-requires c =

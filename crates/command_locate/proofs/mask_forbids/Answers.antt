@@ -10,34 +10,28 @@ pub returns-then-bit_1 : goal.returns-then-bit_1
 unfolding forbids
 returns-then-bit_1 c =
     let mask = c.args.mask in
-    rw (shifted_bit mask 0 c.if-bit_0.true, shifted_bit mask 1 c.if-bit_1.true)
-
-pub is_operation-requires : goal.is_operation-requires
-is_operation-requires c = tt
+    rw (shifted_bit mask 0 (eq-eqb _ _ c.if-bit_0.true), shifted_bit mask 1 (eq-eqb _ _ c.if-bit_1.true))
 
 pub returns-then-bit_0 : goal.returns-then-bit_0
 unfolding forbids
 returns-then-bit_0 c =
     let mask = c.args.mask in
-    rw (shifted_bit mask 0 c.if-bit_0.true, shifted_bit mask 1 c.if-bit_1.false, c.is_operation.ensures)
+    rw (shifted_bit mask 0 (eq-eqb _ _ c.if-bit_0.true), shifted_bit mask 1 (ne_eqb _ _ c.if-bit_1.false), c.is_operation.ensures)
 
 pub returns-then-operation-eq-FORMAT : goal.returns-then-operation-eq-FORMAT
 unfolding forbids
 returns-then-operation-eq-FORMAT c =
     let mask = c.args.mask in
-    rw (shifted_bit mask 0 c.if-bit_0.false, eq-eqb _ _ c.if-operation-eq-FORMAT.true)
+    rw (shifted_bit mask 0 (ne_eqb _ _ c.if-bit_0.false), eq-eqb _ _ c.if-operation-eq-FORMAT.true)
 
 pub returns-then-not-bit_1 : goal.returns-then-not-bit_1
 unfolding forbids
 returns-then-not-bit_1 c =
     let mask = c.args.mask in
-    rw (shifted_bit mask 0 c.if-bit_0.false, ne_eqb _ _ c.if-operation-eq-FORMAT.false, shifted_bit mask 1 c.if-not-bit_1.true)
-
-pub writes-requires : goal.writes-requires
-writes-requires c = tt
+    rw (shifted_bit mask 0 (ne_eqb _ _ c.if-bit_0.false), ne_eqb _ _ c.if-operation-eq-FORMAT.false, shifted_bit mask 1 (ne_eqb _ _ c.if-not-bit_1.true))
 
 pub returns : goal.returns
 unfolding forbids
 returns c =
     let mask = c.args.mask in
-    rw (shifted_bit mask 0 c.if-bit_0.false, ne_eqb _ _ c.if-operation-eq-FORMAT.false, shifted_bit mask 1 c.if-not-bit_1.false, c.writes.ensures) (sym (or-false _))
+    rw (shifted_bit mask 0 (ne_eqb _ _ c.if-bit_0.false), ne_eqb _ _ c.if-operation-eq-FORMAT.false, shifted_bit mask 1 (eq-eqb _ _ c.if-not-bit_1.false), c.writes.ensures) (sym (or-false _))

@@ -6,18 +6,18 @@ use Rattle.command_transfer.proofs.read.Goals as goal
 
 pub returns-then-cause-ne0 : goal.returns-then-cause-ne0
 returns-then-cause-ne0 c =
-    transfer_refused (reading c.requires) c.reads.ensures c.transfer_cause-cause.ensures c.if-cause-ne0.true c.refuse.ensures
+    λ u. transfer_refused (reading c.requires) c.reads.ensures c.transfer_cause-cause.ensures c.if-cause-ne0.true c.refuse.ensures
 
 pub located_move-m-requires : goal.located_move-m-requires
-located_move-m-requires c = let p = (let through_here : let a = c.args in Passed reads a.d a.chain.now a.c a.s a.main.now a.store.now a.map.now = passed (reading c.requires) c.reads.ensures c.transfer_cause-cause.ensures c.if-cause-ne0.false in through_here) in placed _ _ _ _ p.transfer.sound p.located
+located_move-m-requires c = let p = (passed (reading c.requires) c.reads.ensures c.transfer_cause-cause.ensures c.if-cause-ne0.false) in placed _ _ _ _ p.transfer.sound p.located
 
 pub read_blocks-requires : goal.read_blocks-requires
-read_blocks-requires c = move_asks ((let through_here : let a = c.args in Passed reads a.d a.chain.now a.c a.s a.main.now a.store.now a.map.now = passed (reading c.requires) c.reads.ensures c.transfer_cause-cause.ensures c.if-cause-ne0.false in through_here)) c.located_move-m.ensures
+read_blocks-requires c = move_asks (passed (reading c.requires) c.reads.ensures c.transfer_cause-cause.ensures c.if-cause-ne0.false) c.located_move-m.ensures
 
 pub read_done-requires : goal.read_done-requires
 read_done-requires c =
-    done_asks ((let through_here : let a = c.args in Passed reads a.d a.chain.now a.c a.s a.main.now a.store.now a.map.now = passed (reading c.requires) c.reads.ensures c.transfer_cause-cause.ensures c.if-cause-ne0.false in through_here)) c.located_move-m.ensures (search (rules, c.struct_known-1))
+    done_asks (passed (reading c.requires) c.reads.ensures c.transfer_cause-cause.ensures c.if-cause-ne0.false) c.located_move-m.ensures (search (rules, c.struct_known-1))
 
 pub returns : goal.returns
 returns c =
-    read_ends ((let through_here : let a = c.args in Passed reads a.d a.chain.now a.c a.s a.main.now a.store.now a.map.now = passed (reading c.requires) c.reads.ensures c.transfer_cause-cause.ensures c.if-cause-ne0.false in through_here)) c.requires.2 c.read_done.ensures c.located_move-m.ensures c.read_blocks.ensures
+    λ u. read_ends (passed (reading c.requires) c.reads.ensures c.transfer_cause-cause.ensures c.if-cause-ne0.false) c.requires.2 c.read_done.ensures c.located_move-m.ensures c.read_blocks.ensures

@@ -6,18 +6,18 @@ use Rattle.command_transfer.proofs.write.Goals as goal
 
 pub returns-then-cause-ne0 : goal.returns-then-cause-ne0
 returns-then-cause-ne0 c =
-    transfer_refused (writing c.requires) c.writes.ensures c.transfer_cause-cause.ensures c.if-cause-ne0.true c.refuse.ensures
+    λ u. transfer_refused (writing c.requires) c.writes.ensures c.transfer_cause-cause.ensures c.if-cause-ne0.true c.refuse.ensures
 
 pub located_move-m-requires : goal.located_move-m-requires
-located_move-m-requires c = let p = (let through_here : let a = c.args in Passed writes a.d a.chain.now a.c a.s a.main.now a.store.now a.map.now = passed (writing c.requires) c.writes.ensures c.transfer_cause-cause.ensures c.if-cause-ne0.false in through_here) in placed _ _ _ _ p.transfer.sound p.located
+located_move-m-requires c = let p = (passed (writing c.requires) c.writes.ensures c.transfer_cause-cause.ensures c.if-cause-ne0.false) in placed _ _ _ _ p.transfer.sound p.located
 
 pub store_blocks-requires : goal.store_blocks-requires
-store_blocks-requires c = move_asks ((let through_here : let a = c.args in Passed writes a.d a.chain.now a.c a.s a.main.now a.store.now a.map.now = passed (writing c.requires) c.writes.ensures c.transfer_cause-cause.ensures c.if-cause-ne0.false in through_here)) c.located_move-m.ensures
+store_blocks-requires c = move_asks (passed (writing c.requires) c.writes.ensures c.transfer_cause-cause.ensures c.if-cause-ne0.false) c.located_move-m.ensures
 
 pub write_done-requires : goal.write_done-requires
 write_done-requires c =
-    done_asks ((let through_here : let a = c.args in Passed writes a.d a.chain.now a.c a.s a.main.now a.store.now a.map.now = passed (writing c.requires) c.writes.ensures c.transfer_cause-cause.ensures c.if-cause-ne0.false in through_here)) c.located_move-m.ensures (search (rules, c.struct_known-1))
+    done_asks (passed (writing c.requires) c.writes.ensures c.transfer_cause-cause.ensures c.if-cause-ne0.false) c.located_move-m.ensures (search (rules, c.struct_known-1))
 
 pub returns : goal.returns
 returns c =
-    write_ends ((let through_here : let a = c.args in Passed writes a.d a.chain.now a.c a.s a.main.now a.store.now a.map.now = passed (writing c.requires) c.writes.ensures c.transfer_cause-cause.ensures c.if-cause-ne0.false in through_here)) c.requires.2 c.write_done.ensures c.located_move-m.ensures c.store_blocks.ensures
+    λ u. write_ends (passed (writing c.requires) c.writes.ensures c.transfer_cause-cause.ensures c.if-cause-ne0.false) c.requires.2 c.write_done.ensures c.located_move-m.ensures c.store_blocks.ensures
