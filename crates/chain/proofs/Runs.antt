@@ -199,7 +199,7 @@ module _ (dev : Device) (chain : List ℕ) where
             closes = p.closes (p.go ∙ g);
             main_length = m.main_length ∙ w.main_length;
             store_length = m.store_length ∙ w.store_length;
-            map_length = same_map ∙ w.map-length;
+            map_length = same_map ∙ w.map_length;
             answers_length = m.answers_length ∙ w.answers_length;
             room = omega (arith, k.1, given, behind, long);
             safe = m.safe;
