@@ -1,4 +1,3 @@
-pub mod Lent
 pub mod Reached
 pub mod Unique
 pub mod MovedEnds

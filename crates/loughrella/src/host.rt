@@ -51,8 +51,8 @@ pub fn run_hosted(
     answers: &mut [u8],
 ) -> Reached
     requires { Usable d × (first_of (sized_causes d chain.now storage.old store.old unit.old answers.old) ≡ 0) }
-    ensures* { λ r. ⌜ (record { result = result_of r.cause r.answers; main = storage.new; store = store.new; unit = unit.new; answers = answers.new }
-        ≡ host_call_of d chain.now storage.old store.old unit.old answers.old) × (r.answers ≤ 32) ⌝ }
+    ensures { (record { result = result_of result.cause result.answers; main = storage.new; store = store.new; unit = unit.new; answers = answers.new }
+        ≡ host_call_of d chain.now storage.old store.old unit.old answers.old) × (result.answers ≤ 32) }
 {
     let cause = map_cause(d, store, &unit[sizes::RECORD..]);
     if cause != 0 {

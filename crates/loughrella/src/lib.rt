@@ -30,8 +30,8 @@ pub extern "C" fn loughrella_run(
     unit: &mut [u8],
     answers: &mut [u8],
 ) -> u32
-    ensures* { λ r. ⌜ record { result = r; main = storage.new; store = store.new; unit = unit.new; answers = answers.new }
-        ≡ host_call alternates chain.now storage.old store.old unit.old answers.old ⌝ }
+    ensures { record { result = result; main = storage.new; store = store.new; unit = unit.new; answers = answers.new }
+        ≡ host_call alternates chain.now storage.old store.old unit.old answers.old }
 {
     let d = Device::class_a(alternates);
     let cause = host_cause(d, chain, storage, store, unit, answers);
@@ -52,8 +52,8 @@ pub extern "C" fn loughrella_run_class(
     unit: &mut [u8],
     results: &mut [u8],
 ) -> u32
-    ensures* { λ r. ⌜ record { result = r; left = record { main = storage.new; store = store.new; unit = unit.new; results = results.new } }
-        ≡ run_class alternates chains.now storage.old store.old unit.old results.old ⌝ }
+    ensures { record { result = result; left = record { main = storage.new; store = store.new; unit = unit.new; results = results.new } }
+        ≡ run_class alternates chains.now storage.old store.old unit.old results.old }
 {
     if class_wrong(chains, results.len()) {
         return result_of(7, 0);
@@ -72,7 +72,7 @@ pub extern "C" fn loughrella_run_class(
 // The record of a new unit, ready or not, read-only or not. 0, or 256 times 6.
 #[unsafe(no_mangle)]
 pub extern "C" fn loughrella_record(unit: &mut [u8], ready: u8, read_only: u8) -> u32
-    ensures* { λ r. ⌜ record { result = r; unit = unit.new } ≡ set_up unit.old ready read_only ⌝ }
+    ensures { record { result = result; unit = unit.new } ≡ set_up unit.old ready read_only }
 {
     if unit.len() != sizes::UNIT_RECORD {
         return result_of(6, 0);
@@ -90,7 +90,7 @@ pub extern "C" fn loughrella_give_back(
     unit: &mut [u8],
     block: u32,
 ) -> u32
-    ensures* { λ r. ⌜ record { result = r; store = store.new; unit = unit.new } ≡ give_back alternates store.old unit.old block ⌝ }
+    ensures { record { result = result; store = store.new; unit = unit.new } ≡ give_back alternates store.old unit.old block }
 {
     let device = Device::class_a(alternates);
     let refusal = give_back_cause(device, store, unit, block as usize);
