@@ -3,12 +3,34 @@
 // input is so long), and the output holds every answer whole (the law `printout_fits` there).
 #![tactic(auto)]
 
-use libc::{STDIN_FILENO, STDOUT_FILENO};
+ghost use Rattle.std.specs.Prelude.{◌≤◌, length, IfOk};
 
-fn main() {
-    let mut input = io::buffer();
-    let n = io::read_full(STDIN_FILENO, &mut input);
-    let mut output = io::large_buffer();
+use std::io::{self, Print, Read};
+
+// The bytes of an input that are read, and of a printout that are written.
+const INPUT: usize = 4096;
+
+const OUTPUT: usize = 65536;
+
+// Fills the buffer until the input ends; how many bytes that was.
+fn read_full<R: Read>(input: &mut R, to: &mut [u8]) -> io::Result<usize>
+    ensures { IfOk result (λ n. n ≤ length to.new) }
+{
+    let mut done = 0;
+    while done < to.len() {
+        let n = input.read(&mut to[done..])?;
+        if n == 0 {
+            break;
+        }
+        done += n;
+    }
+    Ok(done)
+}
+
+fn main(rt: HostRuntime) -> io::Result<()> {
+    let mut input = [0u8; INPUT];
+    let n = read_full(&mut rt.stdin(), &mut input)?;
+    let mut output = [0u8; OUTPUT];
     let m = text_exercise::exercise(&input[..n], &mut output);
-    io::write_all(STDOUT_FILENO, &output[..m]);
+    rt.write_all(&output[..m])
 }
