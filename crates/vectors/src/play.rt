@@ -8,6 +8,7 @@ use in_place::Ran;
 use model::record::{Record, UnitRecord};
 use model::sizes;
 use record::{same_count, same_sense};
+use std::io::{self, Print};
 
 // The settings of a vector, each a bit; three bits more say which store and device (`words::Device`).
 const NOT_READY: u64 = 0x01;
@@ -169,7 +170,8 @@ fn run(
 }
 
 // The places that the n words from `from` on name, each after the other.
-fn shows(
+fn shows<P: Print>(
+    out: &P,
     from: usize,
     n: usize,
     table: &[u64],
@@ -177,13 +179,21 @@ fn shows(
     storage: &[u8],
     store: &[u8],
     answers: &[u8],
-) {
+) -> io::Result<()> {
     let mut k = 0;
     while k < n {
-        show::shown(words::word(table, from, k), unit, storage, store, answers);
+        show::shown(
+            out,
+            words::word(table, from, k),
+            unit,
+            storage,
+            store,
+            answers,
+        )?;
         k += 1;
     }
-    show::text(b"\n");
+    show::text(out, b"\n")?;
+    Ok(())
 }
 
 // Whether a run left sense and the count of blocks read as they were.
@@ -199,7 +209,8 @@ fn kept(before: Record, after: Record) -> bool {
 }
 
 // The vector's line.
-fn tell(
+fn tell<P: Print>(
+    out: &P,
     id: Id,
     v: Vector,
     table: &[u64],
@@ -208,13 +219,16 @@ fn tell(
     storage: &[u8],
     store: &[u8],
     answers: &[u8],
-) {
-    show::decimal(id.group);
-    show::labelled(b".", id.number);
-    show::line(ran, answers);
+) -> io::Result<()> {
+    show::decimal(out, id.group)?;
+    show::labelled(out, b".", id.number)?;
+    show::line(out, ran, answers)?;
     let unit = ran.unit;
-    show::refused(ran.code, kept(before.unit, unit.unit));
-    shows(v.shows_at, v.shows, table, unit, storage, store, answers);
+    show::refused(out, ran.code, kept(before.unit, unit.unit))?;
+    shows(
+        out, v.shows_at, v.shows, table, unit, storage, store, answers,
+    )?;
+    Ok(())
 }
 
 // Runs one vector on this record.
@@ -232,7 +246,8 @@ fn played(
 }
 
 // Runs one vector and prints its line; `left` is the record that the one before it left. It returns the record that the vector leaves.
-fn one(
+fn one<P: Print>(
+    out: &P,
     id: Id,
     v: Vector,
     table: &[u64],
@@ -241,22 +256,23 @@ fn one(
     storage: &mut [u8],
     store: &mut [u8],
     answers: &mut [u8],
-) -> UnitRecord {
+) -> io::Result<UnitRecord> {
     let before = entered(start(left, v.setting), v.device, table);
     let ran = played(v, table, before, chain, storage, store, answers);
-    tell(id, v, table, before, ran, storage, store, answers);
-    ran.unit
+    tell(out, id, v, table, before, ran, storage, store, answers)?;
+    Ok(ran.unit)
 }
 
 // A line for each vector of the table.
-fn turns(
+fn turns<P: Print>(
+    out: &P,
     group: u64,
     table: &[u64],
     chain: &mut [u8],
     storage: &mut [u8],
     store: &mut [u8],
     answers: &mut [u8],
-) {
+) -> io::Result<()> {
     let mut unit = fresh(0);
     let mut at = 0;
     let mut number: u64 = 0;
@@ -267,34 +283,54 @@ fn turns(
             group: group,
             number: number,
         };
-        unit = one(id, v, table, unit, chain, storage, store, answers);
+        unit = one(out, id, v, table, unit, chain, storage, store, answers)?;
         at = v.next;
     }
+    Ok(())
 }
 
-fn heading(n: u64, title: &[u8]) {
-    show::decimal(n);
-    show::text(b". ");
-    show::text(title);
-    show::text(b"\n");
+fn heading<P: Print>(out: &P, n: u64, title: &[u8]) -> io::Result<()> {
+    show::decimal(out, n)?;
+    show::text(out, b". ")?;
+    show::text(out, title)?;
+    show::text(out, b"\n")?;
+    Ok(())
 }
 
 // A group of vectors: its heading, and its lines.
-pub fn group(n: u64, title: &[u8], table: &[u64]) {
+pub fn group<P: Print>(out: &P, n: u64, title: &[u8], table: &[u64]) -> io::Result<()> {
     let mut chain = [0; CHAIN];
     let mut storage = [0; STORAGE];
     let mut store = [0; STORE];
     let mut answers = [0; CHAIN];
-    heading(n, title);
-    turns(n, table, &mut chain, &mut storage, &mut store, &mut answers);
+    heading(out, n, title)?;
+    turns(
+        out,
+        n,
+        table,
+        &mut chain,
+        &mut storage,
+        &mut store,
+        &mut answers,
+    )?;
+    Ok(())
 }
 
 // A group whose vectors may have a store of up to 66 blocks.
-pub fn large_group(n: u64, title: &[u8], table: &[u64]) {
+pub fn large_group<P: Print>(out: &P, n: u64, title: &[u8], table: &[u64]) -> io::Result<()> {
     let mut chain = [0; CHAIN];
     let mut storage = [0; STORAGE];
     let mut store = [0; LARGE_STORE];
     let mut answers = [0; CHAIN];
-    heading(n, title);
-    turns(n, table, &mut chain, &mut storage, &mut store, &mut answers);
+    heading(out, n, title)?;
+    turns(
+        out,
+        n,
+        table,
+        &mut chain,
+        &mut storage,
+        &mut store,
+        &mut answers,
+    )?;
+    Ok(())
 }
