@@ -1,5 +1,4 @@
 -- `put_answers` meets its contract: the zeros of the pieces that are filled, then the last answer behind them. Assumes nothing.
--- what is left of the counts, taken from their sum, is what was moved
 use Prim.Native.Nat.{◌-◌}
 use mathlib.Core.Path.{◌≡◌}
 use native.Mathlib.Omega.{arith}
@@ -13,7 +12,10 @@ spread_leaving-s-requires c = (c.requires.0.ccws, omega (arith, c.requires.0.cou
 
 pub returns : goal.returns
 returns c =
-    let s = rw ((let moved-is_here : let a = c.args in counts (area_of a.chain.now a.c.area) - (a.c.count - a.moved) ≡ a.moved = omega (arith, c.requires.0.count, c.requires.1) in moved-is_here)) at c.spread_leaving-s.ensures in
+    let a = c.args in
+    -- what is left of the counts, taken from their sum, is what was moved
+    let moved_is : counts (area_of a.chain.now a.c.area) - (a.c.count - a.moved) ≡ a.moved = omega (arith, c.requires.0.count, c.requires.1) in
+    let s = rw moved_is at c.spread_leaving-s.ensures in
     let put = c.put_last.ensures in
     record {
       put = put_given _ _ _ _ _ _ _ _ _ _ _ s.over.0 s.over.1 c.clear_answers.ensures put.put (omega arith);

@@ -1,5 +1,4 @@
 -- `in_place::run_core` meets its contract. The call's equation, with cause and commands reached in one number; they fit, since at most 32 commands are reached. Assumes nothing.
--- the map is an array
 use mathlib.Core.Path.{◌≡◌, sym}
 use lib.ListN.{length}
 use Rattle.model.proofs.Safety.{class_a_usable}
@@ -8,10 +7,10 @@ use borrow.Author.Rules.{rules}
 use Rattle.in_place.proofs.run_core.Goals as goal
 
 pub slice_bounds-call-end : goal.slice_bounds-call-end
-slice_bounds-call-end c = sym ((let long_here : length c.args.r.map ≡ 256 = search rules in long_here))
+slice_bounds-call-end c = let long : length c.args.r.map ≡ 256 = search rules in sym long
 
 pub call-called-requires : goal.call-called-requires
-call-called-requires c = (rw c.class_a.ensures (class_a_usable _), (let long_here : length c.args.r.map ≡ 256 = search rules in long_here))
+call-called-requires c = let long : length c.args.r.map ≡ 256 = search rules in (rw c.class_a.ensures (class_a_usable _), long)
 
 pub result_of-requires : goal.result_of-requires
 result_of-requires c =

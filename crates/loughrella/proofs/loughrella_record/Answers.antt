@@ -14,14 +14,14 @@ returns-then-unit-ne-UNIT_RECORD c =
     rw c.result_of.ensures (sym (set_up_none args.unit.now args.ready args.read_only c.if-unit-ne-UNIT_RECORD.true))
 
 pub slice_bounds-pack-end-2 : goal.slice_bounds-pack-end-2
-slice_bounds-pack-end-2 c = sym ((let front_here : length (take map_place c.args.unit.now) ≡ map_place = length-take-le map_place c.args.unit.now (omega (arith, c.if-unit-ne-UNIT_RECORD.false)) in front_here))
+slice_bounds-pack-end-2 c = sym (length-take-le map_place c.args.unit.now (omega (arith, c.if-unit-ne-UNIT_RECORD.false)))
 
 pub pack-requires : goal.pack-requires
-pack-requires c = (let front_here : length (take map_place c.args.unit.now) ≡ map_place = length-take-le map_place c.args.unit.now (omega (arith, c.if-unit-ne-UNIT_RECORD.false)) in front_here)
+pack-requires c = length-take-le map_place c.args.unit.now (omega (arith, c.if-unit-ne-UNIT_RECORD.false))
 
 pub returns : goal.returns
 returns c =
     let args = c.args in
     let packed = c.pack in
     let whole = c.if-unit-ne-UNIT_RECORD.false in
-    rw (new_stored args.unit.now _ _ whole (packed.auto.to ∙ (let front_here : length (take map_place c.args.unit.now) ≡ map_place = length-take-le map_place c.args.unit.now (omega (arith, c.if-unit-ne-UNIT_RECORD.false)) in front_here)) c.clear.ensures, packed.ensures, c.new_record.ensures) (sym (set_up_record args.unit.now args.ready args.read_only whole))
+    rw (new_stored args.unit.now _ _ whole (packed.auto.to ∙ length-take-le map_place c.args.unit.now (omega (arith, c.if-unit-ne-UNIT_RECORD.false))) c.clear.ensures, packed.ensures, c.new_record.ensures) (sym (set_up_record args.unit.now args.ready args.read_only whole))

@@ -13,23 +13,26 @@ use Rattle.buffered_log.proofs.Log.of.Goals as goal
 empty : Record
 empty = record { sense = []; blocks_read = []; blocks_written = []; movements = []; ready = 0; read_only = 0 }
 
--- what is lent as a slice is an array of the counts
-pub slice_bounds-put_at-end-2 : goal.slice_bounds-put_at-end-2
-slice_bounds-put_at-end-2 c = search rules
-
 pub put_at-requires : goal.put_at-requires
-put_at-requires c = omega (arith, (let arrays_here : Arrays c.args.k = record { read = search rules; written = search rules; movements = search rules } in arrays_here))
+put_at-requires c =
+    let arrays : Arrays c.args.k = record { read = search rules; written = search rules; movements = search rules } in
+    omega (arith, arrays)
 
 pub put_at-requires-2 : goal.put_at-requires-2
-put_at-requires-2 c = omega (arith, (let arrays_here : Arrays c.args.k = record { read = search rules; written = search rules; movements = search rules } in arrays_here))
+put_at-requires-2 c =
+    let arrays : Arrays c.args.k = record { read = search rules; written = search rules; movements = search rules } in
+    omega (arith, arrays)
 
 pub put_at-requires-3 : goal.put_at-requires-3
-put_at-requires-3 c = omega (arith, (let arrays_here : Arrays c.args.k = record { read = search rules; written = search rules; movements = search rules } in arrays_here))
+put_at-requires-3 c =
+    let arrays : Arrays c.args.k = record { read = search rules; written = search rules; movements = search rules } in
+    omega (arith, arrays)
 
 pub returns : goal.returns
 returns c =
-    let stored : (u : Record) → _ = λ u. log_stored u _ _ _ _ ((let arrays_here : Arrays c.args.k = record { read = search rules; written = search rules; movements = search rules } in arrays_here)) c.put_at.ensures c.put_at-2.ensures c.put_at-3.ensures in
+    let arrays : Arrays c.args.k = record { read = search rules; written = search rules; movements = search rules } in
+    let stored : (u : Record) → _ = λ u. log_stored u _ _ _ _ arrays c.put_at.ensures c.put_at-2.ensures c.put_at-3.ensures in
     record {
       shows = stored;
-      long = ap length (stored empty) ∙ log_length empty _ ((let arrays_here : Arrays c.args.k = record { read = search rules; written = search rules; movements = search rules } in arrays_here));
+      long = ap length (stored empty) ∙ log_length empty _ arrays;
     }

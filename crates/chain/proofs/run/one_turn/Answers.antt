@@ -1,5 +1,4 @@
 -- `run::one_turn` meets its contract: the command, the step and the answers are those of `next`, and "go on" is `more`. Assumes nothing.
--- two bytes count the blocks of a LOCATE
 use Prim.Native.Nat.{◌<◌}
 use native.Mathlib.Omega.{arith}
 use Rattle.model.proofs.Fields.{step_moved}
@@ -26,9 +25,11 @@ put_answers-given-requires c =
 pub returns : goal.returns
 returns c =
     let a = c.args in
+    -- two bytes count the blocks of a LOCATE
+    let few : a.s.located.blocks < 65536 = search (rules, c.well_formed.1.1.1.1.1.0.1.1.1.0.1.1.1.1.0) in
     let e = c.command_at-c.ensures in
     let p = c.put_answers-given.ensures in
     λ i b.
     let k = begins_command a.chain.now i a.at _ _ b e.first in
     turned a.d a.chain.now a.at i _ a.u a.s a.main.now a.store.now a.map.now a.answers.now _ _ _ c.step-e.result a.reached
-    e.told.0 k.0 c.step-e.ensures _ _ _ p.put p.next p.whole c.requires.sound.mounted.device ((let few_here : c.args.s.located.blocks < 65536 = search (rules, c.well_formed.1.1.1.1.1.0.1.1.1.0.1.1.1.1.0) in few_here)) c.goes_on.ensures k.1 e.told.1 e.on
+    e.told.0 k.0 c.step-e.ensures _ _ _ p.put p.next p.whole c.requires.sound.mounted.device few c.goes_on.ensures k.1 e.told.1 e.on

@@ -12,26 +12,31 @@ pub loop-at-init : goal.loop-at-init
 loop-at-init c = (refl, refl, refl, refl, marking_none _ _ _ _ _ _ c.requires.1)
 
 pub be2-len-requires : goal.be2-len-requires
-be2-len-requires c = omega (arith, (let there_here : let l = c.loop-at in let chains = c.args.chains.now in l.at + 2 + be2 chains l.at ≤ length chains = let l = c.loop-at in next_there _ _ _ _ _ _ l.storage l.store l.unit l.results l.at l.used l.invariant.4 c.loop-at-test.true in there_here))
+be2-len-requires c =
+    let l = c.loop-at in
+    omega (arith, next_there _ _ _ _ _ _ l.storage l.store l.unit l.results l.at l.used l.invariant.4 c.loop-at-test.true)
 
 pub overflow_add-end : goal.overflow_add-end
-overflow_add-end c = search (rules, (let room-there_here : let l = c.loop-at in l.used + c.result_size.result ≤ length l.results = let l = c.loop-at in
-    rw (c.result_size.ensures, c.be2-len.ensures.0) (next_room _ _ _ _ _ _ l.storage l.store l.unit l.results l.at l.used l.invariant.4 c.loop-at-test.true) in room-there_here))
+overflow_add-end c =
+    let l = c.loop-at in
+    let room : l.used + c.result_size.result ≤ length l.results
+    = rw (c.result_size.ensures, c.be2-len.ensures.0) (next_room _ _ _ _ _ _ l.storage l.store l.unit l.results l.at l.used l.invariant.4 c.loop-at-test.true) in
+    search (rules, room)
 
 pub slice_bounds-mark-end : goal.slice_bounds-mark-end
-slice_bounds-mark-end c = (let chain-there_here : c.loop-at.at + 2 + c.be2-len.result ≤ length c.args.chains.now = rw c.be2-len.ensures.0 ((let there_here : let l = c.loop-at in let chains = c.args.chains.now in l.at + 2 + be2 chains l.at ≤ length chains = let l = c.loop-at in next_there _ _ _ _ _ _ l.storage l.store l.unit l.results l.at l.used l.invariant.4 c.loop-at-test.true in there_here)) in chain-there_here)
+slice_bounds-mark-end c =
+    let l = c.loop-at in
+    rw c.be2-len.ensures.0 (next_there _ _ _ _ _ _ l.storage l.store l.unit l.results l.at l.used l.invariant.4 c.loop-at-test.true)
 
 pub slice_bounds-mark-end-in-loop-at : goal.slice_bounds-mark-end-in-loop-at
-slice_bounds-mark-end-in-loop-at c = (let room-there_here : let l = c.loop-at in l.used + c.result_size.result ≤ length l.results = let l = c.loop-at in
-    rw (c.result_size.ensures, c.be2-len.ensures.0) (next_room _ _ _ _ _ _ l.storage l.store l.unit l.results l.at l.used l.invariant.4 c.loop-at-test.true) in room-there_here)
+slice_bounds-mark-end-in-loop-at c =
+    let l = c.loop-at in
+    rw (c.result_size.ensures, c.be2-len.ensures.0) (next_room _ _ _ _ _ _ l.storage l.store l.unit l.results l.at l.used l.invariant.4 c.loop-at-test.true)
 
 pub mark-requires : goal.mark-requires
 mark-requires c =
     let l = c.loop-at in
     (c.requires.0, head_fits _ _ _ _ _ _ l.storage l.store l.unit l.results l.at l.used l.invariant.4 c.loop-at-test.true _ _ c.be2-len.ensures.0 c.result_size.ensures)
-
-pub loop-at-smaller : goal.loop-at-smaller
-loop-at-smaller c = search rules
 
 pub loop-at-preserved : goal.loop-at-preserved
 loop-at-preserved c =
@@ -43,18 +48,6 @@ loop-at-preserved c =
       search rules,
       marking_more _ _ _ _ _ _ l.storage l.store l.unit l.results l.at l.used l.invariant.4 c.loop-at-test.true _ _ c.be2-len.ensures.0 c.result_size.ensures _ _ _ _ m.ensures m.auto.to,
     )
-
-pub shape_of-storage : goal.shape_of-storage
-shape_of-storage c = search rules
-
-pub shape_of-store : goal.shape_of-store
-shape_of-store c = search rules
-
-pub shape_of-unit : goal.shape_of-unit
-shape_of-unit c = search rules
-
-pub shape_of-results : goal.shape_of-results
-shape_of-results c = search rules
 
 pub returns : goal.returns
 returns c = marked_all _ _ _ _ _ _ _ _ _ _ _ _ c.loop-at.invariant.4 c.loop-at-test.false

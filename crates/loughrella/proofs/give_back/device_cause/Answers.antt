@@ -1,5 +1,4 @@
 -- `give_back::device_cause` meets its contract. The table is read line by line, the last over the map as it is lent. Assumes nothing.
--- the first line does not hold
 use mathlib.Core.Path.{◌≡◌, sym, ap, ◌∙◌}
 use mathlib.Core.Bool.{not}
 use mathlib.Core.List.{◌++◌}
@@ -15,17 +14,15 @@ use Rattle.model.proofs.Endings.{right_store}
 use Rattle.loughrella.proofs.Hosted.{map_lent, map_whole}
 use Rattle.loughrella.proofs.give_back.device_cause.Goals as goal
 
-pub store_wrong-requires : goal.store_wrong-requires
-unfolding device_causes
-store_wrong-requires c = search rules
-
 pub returns-then-store_wrong : goal.returns-then-store_wrong
 unfolding device_causes
 returns-then-store_wrong c = sym (first_here _ _ (sym c.store_wrong.ensures ∙ c.if-store_wrong.true))
 
 pub returns-then-unit-ne-UNIT_RECORD : goal.returns-then-unit-ne-UNIT_RECORD
 unfolding device_causes
-returns-then-unit-ne-UNIT_RECORD c = sym ((let past_here : let a = c.args in first_of (device_causes a.d a.store.now a.unit.now) ≡ first_of (record_causes a.unit.now ++ map_causes a.d a.store.now (map_of a.unit.now)) = first_later _ _ (sym c.store_wrong.ensures ∙ c.if-store_wrong.false) in past_here) ∙ first_here _ _ (ap not (ne_eqb _ _ c.if-unit-ne-UNIT_RECORD.true)))
+returns-then-unit-ne-UNIT_RECORD c = sym (
+    first_later _ _ (sym c.store_wrong.ensures ∙ c.if-store_wrong.false)
+    ∙ first_here _ _ (ap not (ne_eqb _ _ c.if-unit-ne-UNIT_RECORD.true)))
 
 pub block_count-requires : goal.block_count-requires
 block_count-requires c =
@@ -34,15 +31,21 @@ block_count-requires c =
     (c.requires, omega (arith, right.some_primary))
 
 pub entries_wrong-requires : goal.entries_wrong-requires
-unfolding device_causes
 entries_wrong-requires c = map_whole c.args.unit.now c.if-unit-ne-UNIT_RECORD.false
 
 pub returns-then-entries_wrong : goal.returns-then-entries_wrong
 unfolding map_causes device_causes
-returns-then-entries_wrong c = sym ((let passed_here : let a = c.args in first_of (device_causes a.d a.store.now a.unit.now) ≡ first_of (map_causes a.d a.store.now (map_of a.unit.now)) = (let past_here : let a = c.args in first_of (device_causes a.d a.store.now a.unit.now) ≡ first_of (record_causes a.unit.now ++ map_causes a.d a.store.now (map_of a.unit.now)) = first_later _ _ (sym c.store_wrong.ensures ∙ c.if-store_wrong.false) in past_here) ∙ first_later _ _ (ap not (eq-eqb _ _ c.if-unit-ne-UNIT_RECORD.false)) in passed_here) ∙ first_here _ _ ((let third_here : let a = c.args in bad_map (map_of a.unit.now) a.d.alternates (block_count a.d a.store.now) ≡ c.entries_wrong.result = let a = c.args in
-    sym (rw (map_lent a.unit.now c.if-unit-ne-UNIT_RECORD.false, c.block_count.ensures) at c.entries_wrong.ensures) in third_here) ∙ c.if-entries_wrong.true))
+returns-then-entries_wrong c =
+    let lent = rw (map_lent c.args.unit.now c.if-unit-ne-UNIT_RECORD.false, c.block_count.ensures) at c.entries_wrong.ensures in sym (
+    first_later _ _ (sym c.store_wrong.ensures ∙ c.if-store_wrong.false)
+    ∙ first_later _ _ (ap not (eq-eqb _ _ c.if-unit-ne-UNIT_RECORD.false))
+    ∙ first_here _ _ (sym lent ∙ c.if-entries_wrong.true))
 
 pub returns : goal.returns
 unfolding map_causes device_causes
-returns c = sym ((let passed_here : let a = c.args in first_of (device_causes a.d a.store.now a.unit.now) ≡ first_of (map_causes a.d a.store.now (map_of a.unit.now)) = (let past_here : let a = c.args in first_of (device_causes a.d a.store.now a.unit.now) ≡ first_of (record_causes a.unit.now ++ map_causes a.d a.store.now (map_of a.unit.now)) = first_later _ _ (sym c.store_wrong.ensures ∙ c.if-store_wrong.false) in past_here) ∙ first_later _ _ (ap not (eq-eqb _ _ c.if-unit-ne-UNIT_RECORD.false)) in passed_here) ∙ first_later _ _ ((let third_here : let a = c.args in bad_map (map_of a.unit.now) a.d.alternates (block_count a.d a.store.now) ≡ c.entries_wrong.result = let a = c.args in
-    sym (rw (map_lent a.unit.now c.if-unit-ne-UNIT_RECORD.false, c.block_count.ensures) at c.entries_wrong.ensures) in third_here) ∙ c.if-entries_wrong.false) ∙ first_none)
+returns c =
+    let lent = rw (map_lent c.args.unit.now c.if-unit-ne-UNIT_RECORD.false, c.block_count.ensures) at c.entries_wrong.ensures in sym (
+    first_later _ _ (sym c.store_wrong.ensures ∙ c.if-store_wrong.false)
+    ∙ first_later _ _ (ap not (eq-eqb _ _ c.if-unit-ne-UNIT_RECORD.false))
+    ∙ first_later _ _ (sym lent ∙ c.if-entries_wrong.false)
+    ∙ first_none)

@@ -14,16 +14,16 @@ returns-then-cause-ne0 c =
     device_first a.d a.store.now a.unit.now a.block _ c.device_cause-cause.ensures c.if-cause-ne0.true
 
 pub slice_bounds-return_cause-count : goal.slice_bounds-return_cause-count
-slice_bounds-return_cause-count c = omega (arith, (let long_here : length c.args.unit.now ≡ record_size = device_long _ _ _ ((let passed_here : let a = c.args in first_of (device_causes a.d a.store.now a.unit.now) ≡ 0 = sym c.device_cause-cause.ensures ∙ c.if-cause-ne0.false in passed_here)) in long_here))
+slice_bounds-return_cause-count c = omega (arith, device_long _ _ _ (sym c.device_cause-cause.ensures ∙ c.if-cause-ne0.false))
 
 pub slice_bounds-return_cause-start : goal.slice_bounds-return_cause-start
-slice_bounds-return_cause-start c = omega (arith, (let long_here : length c.args.unit.now ≡ record_size = device_long _ _ _ ((let passed_here : let a = c.args in first_of (device_causes a.d a.store.now a.unit.now) ≡ 0 = sym c.device_cause-cause.ensures ∙ c.if-cause-ne0.false in passed_here)) in long_here))
+slice_bounds-return_cause-start c = omega (arith, device_long _ _ _ (sym c.device_cause-cause.ensures ∙ c.if-cause-ne0.false))
 
 pub return_cause-requires : goal.return_cause-requires
 return_cause-requires c =
-    device_mounted _ _ _ ((let passed_here : let a = c.args in first_of (device_causes a.d a.store.now a.unit.now) ≡ 0 = sym c.device_cause-cause.ensures ∙ c.if-cause-ne0.false in passed_here)) c.requires
+    device_mounted _ _ _ (sym c.device_cause-cause.ensures ∙ c.if-cause-ne0.false) c.requires
 
 pub returns : goal.returns
 returns c =
     let a = c.args in
-    return_first a.d a.store.now a.unit.now a.block _ ((let passed_here : let a = c.args in first_of (device_causes a.d a.store.now a.unit.now) ≡ 0 = sym c.device_cause-cause.ensures ∙ c.if-cause-ne0.false in passed_here)) c.return_cause.ensures
+    return_first a.d a.store.now a.unit.now a.block _ (sym c.device_cause-cause.ensures ∙ c.if-cause-ne0.false) c.return_cause.ensures

@@ -1,5 +1,4 @@
 -- `give_back::return_cause` meets its contract: the table's two lines in turn. Assumes nothing.
--- the block is the device's
 use Prim.Native.Nat.{◌<◌}
 use mathlib.Core.Path.{sym, ap, ◌∙◌}
 use mathlib.Core.Bool.{not}
@@ -18,15 +17,18 @@ returns-then-block_count-block c = sym (first_here _ _ (ap not (le-ltb _ _ (rw c
 
 pub alternate_of-requires : goal.alternate_of-requires
 alternate_of-requires c =
+    let on : c.args.block < block_count c.args.d c.args.store.now = omega (arith, c.if-block_count-block.false, c.block_count.ensures) in
     let mounted = c.requires in
-    (mounted.whole_map, mounted.few_alternates, omega (arith, (let on_here : let a = c.args in a.block < block_count a.d a.store.now = omega (arith, c.if-block_count-block.false, c.block_count.ensures) in on_here), mounted_primaries _ _ _ mounted))
+    (mounted.whole_map, mounted.few_alternates, omega (arith, on, mounted_primaries _ _ _ mounted))
 
 pub returns-then-d-alternate_of : goal.returns-then-d-alternate_of
 returns-then-d-alternate_of c =
+    let on : c.args.block < block_count c.args.d c.args.store.now = omega (arith, c.if-block_count-block.false, c.block_count.ensures) in
     let own = rw c.alternate_of.ensures at c.if-d-alternate_of.true in
-    sym (first_later _ _ (ap not (lt-ltb _ _ ((let on_here : let a = c.args in a.block < block_count a.d a.store.now = omega (arith, c.if-block_count-block.false, c.block_count.ensures) in on_here)))) ∙ first_here _ _ (ap not (le-ltb _ _ own)))
+    sym (first_later _ _ (ap not (lt-ltb _ _ on)) ∙ first_here _ _ (ap not (le-ltb _ _ own)))
 
 pub returns : goal.returns
 returns c =
+    let on : c.args.block < block_count c.args.d c.args.store.now = omega (arith, c.if-block_count-block.false, c.block_count.ensures) in
     let mapped = rw c.alternate_of.ensures at c.if-d-alternate_of.false in
-    sym (first_later _ _ (ap not (lt-ltb _ _ ((let on_here : let a = c.args in a.block < block_count a.d a.store.now = omega (arith, c.if-block_count-block.false, c.block_count.ensures) in on_here)))) ∙ first_later _ _ (ap not (lt-ltb _ _ mapped)) ∙ first_none)
+    sym (first_later _ _ (ap not (lt-ltb _ _ on)) ∙ first_later _ _ (ap not (lt-ltb _ _ mapped)) ∙ first_none)
