@@ -9,7 +9,7 @@
 --     Outs      all three, and the numbers of the answer
 -- Below them, that the first two are kept: by a record and a command before, by bytes put into main storage. AlikeStores has the third.
 -- No contract cites this file.
-use Prim.Native.Nat.{ℕ, ◌+◌, ◌-◌, ◌≤◌, ◌<◌}
+use Prim.Native.Nat.{ℕ, ◌+◌, ◌≤◌, ◌<◌}
 use mathlib.Core.Path.{◌≡◌, refl, sym, ap, ◌∙◌}
 use mathlib.Core.Bool.{true}
 use mathlib.Core.List.{List, [], ◌∷◌}

@@ -29,7 +29,7 @@ use Rattle.model.specs.Parameters.{locate_length, located_in, address, reads, wr
 use Rattle.model.specs.Causes.{channel_causes, unit_causes, extent_causes, define_extent_causes, read_ipl_causes, transfer_causes, verdict, a_locate, kind_of}
 use Rattle.model.specs.Sense.{shown}
 use Rattle.model.specs.Log.{with_sense, movement_counted, log_of, log_reset}
-use Rattle.model.specs.Commands.{Out, sense_given, after, extent_set, locate_set, map_after, no_operation, define_extent, locate, sent, sense, sense_type, read_log, begun, read, write, accepted, refusal, refused, cleared, seen, decided, step, define_done, locate_done, read_done, write_done}
+use Rattle.model.specs.Commands.{Out, sense_given, after, extent_set, locate_set, map_after, no_operation, define_extent, locate, sent, sense, sense_type, read_log, begun, read, write, accepted, refused, cleared, seen, decided, step, define_done, locate_done, read_done, write_done}
 use Rattle.model.specs.Safe.{Inside, InExtent, Safe}
 use Rattle.model.specs.Exactly.{absent}
 use Rattle.numbers.proofs.Choice.{pick_both}

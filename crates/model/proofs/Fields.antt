@@ -29,7 +29,7 @@ use Rattle.model.specs.Parameters.{locate_length, located_in}
 use Rattle.model.specs.Causes.{channel_causes, unit_causes, extent_causes, define_extent_causes, permission_causes, location_causes, locate_causes, read_ipl_causes, transfer_causes, own_causes, causes_of, verdict, kind_of}
 use Rattle.model.specs.Sense.{CauseRow, sense_table, row_in, shown, sense_of}
 use Rattle.model.specs.Log.{with_sense, with_counts, added3, added2, read_counted, written_counted, movement_counted, log_of, log_reset}
-use Rattle.model.specs.Commands.{Out, sense_given, no_operation, define_extent, locate, sent, sense, sense_type, read_log, begun, read, write, read_ipl, refused, refusal, cleared, seen, after, extent_set, locate_set, map_after, step, define_done, ipl_done, locate_done, read_done, write_done}
+use Rattle.model.specs.Commands.{Out, sense_given, no_operation, define_extent, locate, sent, sense, sense_type, read_log, begun, read, write, read_ipl, refused, cleared, seen, after, extent_set, locate_set, map_after, step, define_done, ipl_done, locate_done, read_done, write_done}
 use Rattle.model.specs.Exactly.{Failed, absent}
 use Rattle.numbers.proofs.Choice.{pick_ind}
 use Rattle.numbers.proofs.Joined.{both_true}

@@ -20,7 +20,7 @@ use Rattle.model.specs.Lent.{block_count}
 use Rattle.model.specs.Pieces.{Command, pieces, commands_in, command_at, total, delivered}
 use Rattle.model.specs.Parameters.{writes}
 use Rattle.model.specs.Causes.{call_causes}
-use Rattle.model.specs.Commands.{Out, out, no_operation, define_extent, locate, sent, sense, sense_type, read_log, read, write, read_ipl, refused, refusal, seen, after, step, define_done, ipl_done, locate_done, read_done, write_done}
+use Rattle.model.specs.Commands.{Out, out, no_operation, define_extent, locate, sent, sense, sense_type, read_log, read, write, read_ipl, refused, seen, after, step, define_done, ipl_done, locate_done, read_done, write_done}
 use Rattle.model.specs.Answer.{answer_size, answer_of, answers_of, answered}
 use Rattle.model.specs.Chain.{System, system, step_at, next, run, start, Called, called, call_of}
 use Rattle.model.specs.Safe.{Inside, Safe}

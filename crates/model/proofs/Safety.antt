@@ -26,7 +26,7 @@ use Rattle.model.specs.Lent.{block_count}
 use Rattle.model.specs.Pieces.{Command, total}
 use Rattle.model.specs.Parameters.{extent_length, extent_in, locate_length, located_in, replication_in, processed, address, outside}
 use Rattle.model.specs.Causes.{extent_causes, define_extent_causes, permission_causes, location_causes, locate_causes, transfer_causes, a_locate, kind_of}
-use Rattle.model.specs.Commands.{after, extent_set, locate_set, no_operation, define_extent, locate, sent, sense, sense_type, read_log, read, write, whole_device, read_ipl, sense_given, refused, refusal, seen, step, define_done, ipl_done, locate_done, read_done, write_done}
+use Rattle.model.specs.Commands.{after, extent_set, locate_set, no_operation, define_extent, locate, sent, sense, sense_type, read_log, read, write, whole_device, read_ipl, sense_given, refused, seen, step, define_done, ipl_done, locate_done, read_done, write_done}
 use Rattle.model.specs.Safe.{Usable, OnDevice, InExtent, Safe}
 use Rattle.model.specs.Chain.{start}
 use Rattle.model.specs.Exactly.{Failed}

@@ -7,7 +7,7 @@
 --     step_cases                    what holds of a refusal and of each accepted command holds of `step`
 --     step_cause                    the cause that a command ends with is the verdict of its table
 -- No contract cites this file.
-use Prim.Native.Nat.{ℕ, ◌+◌, ◌<◌}
+use Prim.Native.Nat.{ℕ, ◌<◌}
 use mathlib.Core.Path.{◌≡◌, refl, sym, ap, ◌∙◌}
 use mathlib.Core.Bool.{Bool, true, false, ◌||◌, false≢true}
 use mathlib.Core.List.{List, [], ◌∷◌, ◌++◌}

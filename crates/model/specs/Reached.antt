@@ -6,7 +6,7 @@
 --     Numbers        the numbers of a command's answer, whole, as its bytes show them
 -- A chain leaves a `Called`; one that the call refuses reaches no command. `proofs/Reached.antt` proves all of it of the run
 -- and of the call. Assumes nothing.
-use Rattle.std.specs.Prelude.{ℕ, zero, suc, ◌+◌, ◌-◌, ◌*◌, ◌≤◌, ◌<◌, ◌≡◌, false, List, [], ◌∷◌, ◌++◌, get_or}
+use Rattle.std.specs.Prelude.{ℕ, zero, suc, ◌+◌, ◌*◌, ◌≤◌, ◌<◌, ◌≡◌, false, List, [], ◌∷◌, ◌++◌, get_or}
 use Rattle.numbers.specs.Big.{be2, bytes2}
 use Rattle.slices.specs.Parts.{zeros, part, put}
 use Rattle.model.specs.declared.device.Device.{Device}

@@ -10,7 +10,7 @@ use native.Mathlib.Numerals.{add-one}
 use native.Mathlib.Omega.{arith}
 use lib.Dec.{ltb}
 use lib.ListN.{length, get_or, set, take, drop, length-append, length-take, length-drop, length-replicate, replicate-append-replicate, take-append-drop, drop_of_length-le, get_or-append}
-use lib.Seq.{take-nil, ext_get_or, set-append_seam, length-take-le, take-length, take_all, drop-length, drop-drop, drop-cons, drop-append-le, drop-append-add, take-add, take_at, drop_at, get_or-take, get_or-drop, get_or-append-add}
+use lib.Seq.{take-nil, ext_get_or, set-append_seam, length-take-le, take_all, drop-length, drop-drop, drop-cons, drop-append-le, drop-append-add, take-add, take_at, drop_at, get_or-take, get_or-drop, get_or-append-add}
 use borrow.Author.Fill.{fill_more}
 use borrow.Author.Tests.{ltb-true, ltb-false}
 use borrow.Rule.Slice.PartMut.{mid_of, put_mid, mid_len, Post-is}

@@ -1,8 +1,6 @@
 -- `alternates::entries_wrong` meets its contract. The invariant: no entry before i is bad, and the bucket of each is not empty. So where a
 -- bucket is empty, no entry before is equal. The measure: the entries left. Assumes nothing.
-use Prim.Native.Nat.{◌-◌}
 use mathlib.Core.Path.{sym, ◌∙◌}
-use mathlib.Core.Bool.{false}
 use native.Mathlib.Omega.{arith}
 use borrow.Author.Count.{below_none, below_more}
 use borrow.Author.Tests.{eqb-true, not-false}

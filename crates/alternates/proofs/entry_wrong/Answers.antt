@@ -1,6 +1,5 @@
 -- `alternates::entry_wrong` meets its contract: the rule's tests, in an order that spares the last one. Assumes nothing.
 use mathlib.Core.Path.{◌≡◌, sym, ◌∙◌}
-use borrow.Author.Tests.{not-true}
 use Rattle.numbers.specs.Choice.{◌=?◌}
 use Rattle.numbers.specs.Lowest.{any}
 use Rattle.model.specs.Alternates.{entry_at, bad_entry}

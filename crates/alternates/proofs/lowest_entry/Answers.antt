@@ -1,12 +1,9 @@
 -- `alternates::lowest_entry` meets its contract. The invariant: no entry before i is e. The measure: the entries left. Assumes nothing.
-use Prim.Native.Nat.{◌-◌}
 use mathlib.Core.Path.{sym, ◌∙◌}
-use mathlib.Core.Bool.{false}
 use native.Mathlib.Omega.{arith}
 use borrow.Author.Count.{below_none, below_more}
 use borrow.Author.Tests.{eq-eqb, ne_eqb}
 use Rattle.numbers.proofs.Lowest.{lowest_is, lowest_none}
-use Rattle.model.specs.Alternates.{entry_at}
 use borrow.Author.Rules.{rules}
 use Rattle.alternates.proofs.lowest_entry.Goals as goal
 

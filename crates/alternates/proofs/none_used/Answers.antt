@@ -1,6 +1,5 @@
 -- `alternates::none_used` meets its contract. The invariant: the bits are none where the first i bytes are 0, and only there. The measure: the
 -- bytes left. Assumes nothing.
-use Prim.Native.Nat.{◌-◌}
 use mathlib.Core.Path.{◌≡◌}
 use native.Mathlib.Omega.{arith}
 use lib.ListN.{length}

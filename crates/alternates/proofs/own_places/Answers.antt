@@ -1,6 +1,5 @@
 -- `alternates::own_places` meets its contract. The invariant: the first j places are the blocks' own. The measure: the places left.
 -- Assumes nothing.
-use Prim.Native.Nat.{◌-◌}
 use native.Mathlib.Omega.{arith}
 use borrow.Author.Count.{below_none}
 use Rattle.alternates.proofs.Placing.{own_more}

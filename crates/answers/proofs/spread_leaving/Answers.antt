@@ -8,7 +8,7 @@ loop-end-init c = unreached_none _ _ _ c.requires.0 c.requires.1
 pub returns-then-over-p : goal.returns-then-over-p
 returns-then-over-p c =
     let all =
-     last_there _ _ _ _ _ c.loop-end.invariant c.loop-end-test.true (rw (← c.piece_at-p.ensures.0) c.piece_at-p.ensures.1.count) (rw (← c.piece_at-p.ensures.0) c.if-over-p.true) in
+    last_there _ _ _ _ _ c.loop-end.invariant c.loop-end-test.true (rw (← c.piece_at-p.ensures.0) c.piece_at-p.ensures.1.count) (rw (← c.piece_at-p.ensures.0) c.if-over-p.true) in
     record {
       over = all.0;
       small = all.1;
@@ -20,7 +20,7 @@ loop-end-preserved c = rw c.piece_at-p.ensures.0 (unreached_more _ _ _ _ _ c.loo
 pub returns : goal.returns
 returns c =
     let all =
-     first_there _ _ _ _ _ c.loop-end.invariant c.requires.0 c.loop-end-test.false in
+    first_there _ _ _ _ _ c.loop-end.invariant c.requires.0 c.loop-end-test.false in
     record {
       over = all.0;
       small = all.1;

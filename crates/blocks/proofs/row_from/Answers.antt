@@ -1,5 +1,4 @@
 -- `row_from` meets its contract. The places so far are a row; those behind it fall. Assumes nothing.
-use Prim.Native.Nat.{◌-◌}
 use native.Mathlib.Omega.{arith}
 use Rattle.blocks.proofs.Rows.{row_one, row_more}
 use borrow.Author.Rules.{rules}

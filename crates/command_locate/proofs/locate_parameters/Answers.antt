@@ -1,6 +1,6 @@
 -- `locate_parameters` meets its contract. Each test is one line of `location_causes`, read over the parts that the code took the bytes into (`location_lines`); `permit` answers the rest. Assumes nothing.
 use Prim.Native.Nat.{ℕ}
-use mathlib.Core.Path.{◌≡◌, sym, ap, ◌∙◌}
+use mathlib.Core.Path.{sym, ap, ◌∙◌}
 use mathlib.Core.Bool.{not}
 use borrow.Author.Tests.{eqb-false}
 use Rattle.model.specs.Rules.{first_of}

@@ -1,5 +1,5 @@
 -- `permit` meets its contract. Each test is one line of `permission_causes`, in its order: a return takes the line whose test held, past those that did not. Assumes nothing.
-use mathlib.Core.Path.{◌≡◌, sym, ◌∙◌}
+use mathlib.Core.Path.{sym, ◌∙◌}
 use Rattle.model.specs.Log.{with_sense, with_counts}
 use Rattle.model.specs.Causes.{permission_causes}
 use Rattle.model.proofs.Verdicts.{first_here, first_later, first_none}

@@ -1,7 +1,6 @@
 -- `read` meets its contract. The cause that was found refuses it; where there is none a sound state places the blocks, which are moved. Assumes nothing.
 use borrow.Author.Rules.{rules}
-use Rattle.model.specs.Parameters.{reads}
-use Rattle.command_transfer.proofs.Transfers.{placed, reading, transfer_refused, Passed, passed, move_asks, done_asks, read_ends}
+use Rattle.command_transfer.proofs.Transfers.{placed, reading, transfer_refused, passed, move_asks, done_asks, read_ends}
 use Rattle.command_transfer.proofs.read.Goals as goal
 
 pub returns-then-cause-ne0 : goal.returns-then-cause-ne0

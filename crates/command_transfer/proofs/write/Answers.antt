@@ -1,7 +1,6 @@
 -- `write` meets its contract, as `read` does. Assumes nothing.
 use borrow.Author.Rules.{rules}
-use Rattle.model.specs.Parameters.{writes}
-use Rattle.command_transfer.proofs.Transfers.{placed, writing, transfer_refused, Passed, passed, move_asks, done_asks, write_ends}
+use Rattle.command_transfer.proofs.Transfers.{placed, writing, transfer_refused, passed, move_asks, done_asks, write_ends}
 use Rattle.command_transfer.proofs.write.Goals as goal
 
 pub returns-then-cause-ne0 : goal.returns-then-cause-ne0

@@ -3,10 +3,6 @@ use Prim.Native.Nat.{ℕ}
 use Rattle.model.specs.declared.device.Device.{Device}
 use mathlib.Core.Path.{◌≡◌, sym, ◌∙◌}
 use native.Mathlib.Omega.{arith}
-use lib.ListN.{length}
-use Rattle.model.specs.Rules.{first_of}
-use Rattle.model.specs.Lent.{record_size}
-use Rattle.model.specs.Causes.{give_back_causes}
 use Rattle.model.specs.Safe.{Usable}
 use Rattle.model.specs.Chain.{class_a}
 use Rattle.model.proofs.Safety.{class_a_usable}

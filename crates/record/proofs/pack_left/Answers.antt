@@ -1,7 +1,6 @@
 -- `pack_left` meets its contract. Assumes nothing.
-use mathlib.Core.Path.{◌≡◌, refl, sym, ◌∙◌}
+use mathlib.Core.Path.{refl, sym, ◌∙◌}
 use native.Mathlib.Omega.{arith}
-use lib.ListN.{length, take}
 use lib.Seq.{length-take-le}
 use Rattle.slices.specs.Parts.{part}
 use Rattle.model.specs.Lent.{record_of}

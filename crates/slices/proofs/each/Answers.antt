@@ -1,8 +1,6 @@
 -- `slices::each` meets its contract: the first k bytes of `to` are those of `from`, and the rest stays.
-use mathlib.Core.Path.{◌≡◌, ◌∙◌, ap}
-use mathlib.Core.List.{List, ◌++◌}
-use Prim.Native.Nat.{ℕ}
-use lib.ListN.{length, take, drop}
+use mathlib.Core.Path.{◌≡◌}
+use lib.ListN.{length, take}
 use lib.Seq.{length-take-le}
 use Rattle.slices.proofs.Laws.{put_copied}
 use Rattle.slices.proofs.each.Goals as goal

@@ -1,5 +1,4 @@
 -- `gather` meets its contract. Before each piece, the bytes that are left to fetch, behind those that were, make the whole; the CCWs left fall. Assumes nothing.
-use Prim.Native.Nat.{◌-◌}
 use mathlib.Core.Path.{refl, ◌∙◌}
 use native.Mathlib.Nat.{sub-zero}
 use native.Mathlib.Omega.{arith}

@@ -1,5 +1,4 @@
 -- `scatter` meets its contract. Before each piece, delivering what is left of the bytes makes the whole; the CCWs left fall. Assumes nothing.
-use Prim.Native.Nat.{◌-◌}
 use mathlib.Core.Path.{refl, ◌∙◌}
 use native.Mathlib.Nat.{sub-zero}
 use native.Mathlib.Omega.{arith}

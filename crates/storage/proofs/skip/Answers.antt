@@ -1,5 +1,4 @@
 -- `skip` meets its contract. Before each piece, what is left behind the bytes still to skip is what is left of the whole; the CCWs left fall. Assumes nothing.
-use Prim.Native.Nat.{◌-◌}
 use mathlib.Core.Path.{refl}
 use Rattle.storage.proofs.Beyond.{skipping_first, skipping_more, skipping_next, skipping_end}
 use Rattle.storage.proofs.skip.Goals as goal

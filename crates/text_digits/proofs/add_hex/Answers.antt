@@ -1,6 +1,5 @@
 -- `text_digits::add_hex` meets its contract. The invariant: the first i bytes are added. The measure: the bytes left.
 -- Assumes nothing.
-use Prim.Native.Nat.{◌-◌}
 use native.Mathlib.Omega.{arith}
 use mathlib.Core.Path.{◌≡◌}
 use lib.ListN.{length}

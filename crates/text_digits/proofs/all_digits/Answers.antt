@@ -1,6 +1,5 @@
 -- `text_digits::all_digits` meets its contract. The invariant: whether all are digits is whether those from i on are. The measure: those left.
 -- Assumes nothing.
-use Prim.Native.Nat.{◌-◌}
 use native.Mathlib.Omega.{arith}
 use mathlib.Core.Path.{◌∙◌, sym}
 use Rattle.text_digits.proofs.Numbers.{digits_none, digits_not, digits_more}

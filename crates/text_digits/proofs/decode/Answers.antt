@@ -1,6 +1,6 @@
 -- `text_digits::decode` meets its contract. The invariant: the bytes of the text are those written, and those of what is left of it. The measure: the bytes left.
 -- Assumes nothing.
-use Prim.Native.Nat.{ℕ, ◌+◌, ◌-◌, ◌*◌}
+use Prim.Native.Nat.{ℕ, ◌+◌, ◌*◌}
 use native.Mathlib.Omega.{arith}
 use mathlib.Core.Path.{◌≡◌}
 use Rattle.text_digits.proofs.Numbers.{decoded, decoded_all}

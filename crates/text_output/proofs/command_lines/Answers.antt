@@ -1,6 +1,5 @@
 -- `text_output::command_lines` meets its contract. The invariant: the lines of the first i commands are added. The measure: the commands left.
 -- Assumes nothing.
-use Prim.Native.Nat.{◌-◌}
 use native.Mathlib.Omega.{arith}
 use mathlib.Core.Path.{◌≡◌}
 use Rattle.text_digits.proofs.Outputs.{adds_nil, ◌then◌}

@@ -1,6 +1,5 @@
 -- `perform` meets its contract. Each arm: the command is of the list, and its own promise is the step's. Assumes nothing.
 use mathlib.Core.Path.{refl}
-use borrow.Author.Rules.{rules}
 use borrow.Author.Tests.{ne_eqb}
 use Rattle.numbers.specs.Choice.{one_of}
 use Rattle.unit.proofs.Performing.{by_list, by_own, has_map, extent_below}

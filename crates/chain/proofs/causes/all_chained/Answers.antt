@@ -1,9 +1,8 @@
 -- `causes::all_chained` meets its contract. The invariant: the first i CCWs have flag 80 or 40. The measure: the CCWs left. One without both refutes the whole.
 -- Assumes nothing.
-use Prim.Native.Nat.{◌-◌, ◌/◌}
+use Prim.Native.Nat.{◌/◌}
 use lib.ListN.{length}
 use mathlib.Core.Path.{◌≡◌, sym, ◌∙◌}
-use mathlib.Core.Bool.{true}
 use native.Mathlib.Omega.{arith}
 use Rattle.chain.proofs.Chained.{chained_none, chained_more, chained_not}
 use borrow.Author.Rules.{rules}

@@ -1,5 +1,4 @@
 -- `run::run_chain` meets its contract. Invariant `Underway`: lengths kept, the state safe, a command begins here, and what is still to run from here gives the whole run; the CCWs left fall. Assumes nothing.
-use Prim.Native.Nat.{◌-◌}
 use mathlib.Core.Path.{refl, sym, ◌∙◌}
 use native.Mathlib.Omega.{arith}
 use borrow.Author.Tests.{not-true, not-false}

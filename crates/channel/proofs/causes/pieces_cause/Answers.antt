@@ -1,5 +1,4 @@
 -- `pieces_cause` meets its contract: while the pieces before an area passed, its verdict is that of all. Assumes nothing.
-use Prim.Native.Nat.{◌-◌}
 use mathlib.Core.Path.{refl, sym, ◌∙◌}
 use Rattle.channel.proofs.Tested.{here, last, next}
 use Rattle.channel.proofs.causes.pieces_cause.Goals as goal

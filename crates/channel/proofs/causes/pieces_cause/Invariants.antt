@@ -3,7 +3,7 @@ use Prim.Native.Nat.{◌-◌}
 use mathlib.Core.Path.{◌≡◌}
 use Rattle.model.specs.Decoded.{Stands}
 use Rattle.model.specs.Safe.{PieceFits}
-use Rattle.channel.proofs.Tested.{cause, next}
+use Rattle.channel.proofs.Tested.{cause}
 use Rattle.channel.proofs.causes.pieces_cause.Given as goal
 
 abbrev pub invariant-loop-area : goal.invariant-loop-area

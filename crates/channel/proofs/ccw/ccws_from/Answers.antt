@@ -1,9 +1,7 @@
 -- `ccw::ccws_from` meets its contract: the CCWs read so far are a run with flag 80, and with the one that ends it they are one command
 -- (`proofs/Runs.antt` of model). Assumes nothing.
 -- CCWs i up to the one before `end` are read, and the chain ends with the last of these or behind it; the count of CCW i is `first`
-use Prim.Native.Nat.{◌-◌}
 use mathlib.Core.Path.{sym, ◌∙◌}
-use mathlib.Core.Bool.{true, false}
 use native.Mathlib.Omega.{arith}
 use Rattle.model.specs.Pieces.{counts}
 use Rattle.channel.proofs.ccw.ccws_from.Invariants.{begun, in_chain, continues, chains, more, flags-last, all}

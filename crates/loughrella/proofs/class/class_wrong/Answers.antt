@@ -1,5 +1,4 @@
 -- `class::class_wrong` meets its contract: its turns are those of `Looked`. The measure: the bytes ahead. Assumes nothing.
-use Prim.Native.Nat.{◌-◌}
 use native.Mathlib.Omega.{arith}
 use Rattle.loughrella.proofs.ClassCauses.{looked_none, looked_more, wrong_cut, wrong_lent, right_all}
 use Rattle.loughrella.proofs.class.class_wrong.Goals as goal

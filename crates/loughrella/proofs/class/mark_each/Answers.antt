@@ -1,9 +1,8 @@
 -- `class::mark_each` meets its contract: its turns are those of `Marking`. The measure: the bytes ahead. Assumes nothing.
-use Prim.Native.Nat.{◌+◌, ◌-◌, ◌≤◌}
+use Prim.Native.Nat.{◌+◌, ◌≤◌}
 use lib.ListN.{length}
 use mathlib.Core.Path.{refl, ◌∙◌}
 use native.Mathlib.Omega.{arith}
-use Rattle.numbers.specs.Big.{be2}
 use Rattle.loughrella.proofs.Marking.{marking_none, marking_more, marked_all, head_fits, next_there, next_room}
 use borrow.Author.Rules.{rules}
 use Rattle.loughrella.proofs.class.mark_each.Goals as goal

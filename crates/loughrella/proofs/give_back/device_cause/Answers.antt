@@ -1,14 +1,9 @@
 -- `give_back::device_cause` meets its contract. The table is read line by line, the last over the map as it is lent. Assumes nothing.
-use mathlib.Core.Path.{◌≡◌, sym, ap, ◌∙◌}
+use mathlib.Core.Path.{sym, ap, ◌∙◌}
 use mathlib.Core.Bool.{not}
-use mathlib.Core.List.{◌++◌}
 use native.Mathlib.Omega.{arith}
-use borrow.Author.Rules.{rules}
 use borrow.Author.Tests.{eq-eqb, ne_eqb}
-use Rattle.model.specs.Rules.{first_of}
-use Rattle.model.specs.Alternates.{bad_map}
-use Rattle.model.specs.Lent.{block_count, map_of}
-use Rattle.model.specs.Causes.{record_causes, map_causes, device_causes}
+use Rattle.model.specs.Causes.{map_causes, device_causes}
 use Rattle.model.proofs.Verdicts.{first_here, first_later, first_none}
 use Rattle.model.proofs.Endings.{right_store}
 use Rattle.loughrella.proofs.Hosted.{map_lent, map_whole}

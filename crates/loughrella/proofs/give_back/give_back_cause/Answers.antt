@@ -1,10 +1,6 @@
 -- `give_back::give_back_cause` meets its contract: the device's causes first, then the block's. Assumes nothing.
-use mathlib.Core.Path.{◌≡◌, sym, ◌∙◌}
+use mathlib.Core.Path.{sym, ◌∙◌}
 use native.Mathlib.Omega.{arith}
-use lib.ListN.{length}
-use Rattle.model.specs.Rules.{first_of}
-use Rattle.model.specs.Lent.{record_size}
-use Rattle.model.specs.Causes.{device_causes}
 use Rattle.loughrella.proofs.Returned.{device_long, device_mounted, device_first, return_first}
 use Rattle.loughrella.proofs.give_back.give_back_cause.Goals as goal
 
