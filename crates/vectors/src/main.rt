@@ -27,7 +27,7 @@
 // movements.
 #![tactic(auto)]
 
-mod alternates;
+mod alternate_blocks;
 mod calls;
 mod ccws;
 mod checks;
@@ -76,7 +76,7 @@ fn main(rt: HostRuntime) -> io::Result<()> {
         &rt,
         9,
         b"Alternates for defective blocks: causes 2, 8, 39 and 42",
-        &alternates::VECTORS,
+        &alternate_blocks::VECTORS,
     )?;
     Ok(())
 }

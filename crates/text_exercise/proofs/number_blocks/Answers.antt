@@ -1,6 +1,5 @@
 -- `text_exercise::number_blocks` meets its contract. The invariant: the first i bytes are those of the device. The measure: the bytes left.
 -- Assumes nothing.
-use Prim.Native.Nat.{◌-◌}
 use native.Mathlib.Omega.{arith}
 use mathlib.Core.Path.{refl}
 use Rattle.text_exercise.proofs.NewStore.{new_store_more, new_store_whole}

@@ -1,6 +1,6 @@
 -- `text_input::chain_in` meets its contract. The invariant: the lines from `at` on are right, and what they say goes after what stands in `to`. The measure: the bytes left.
 -- Assumes nothing.
-use Prim.Native.Nat.{◌+◌, ◌-◌, ◌*◌}
+use Prim.Native.Nat.{◌+◌, ◌*◌}
 use native.Mathlib.Omega.{arith}
 use mathlib.Core.Path.{◌≡◌, refl}
 use lib.ListN.{length}

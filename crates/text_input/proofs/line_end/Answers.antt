@@ -1,6 +1,5 @@
 -- `text_input::line_end` meets its contract. The invariant: the line ends where one that begins at i does. The measure: the bytes left.
 -- Assumes nothing.
-use Prim.Native.Nat.{◌-◌}
 use native.Mathlib.Omega.{arith}
 use Rattle.text_input.proofs.Lines.{no_line, line_ends, line_goes_on}
 use borrow.Author.Rules.{rules}

@@ -1,6 +1,5 @@
 -- `text_input::line_start` meets its contract. The invariant: the lines after the first i are those of the input from `at` on. The measure: the lines left.
 -- Assumes nothing.
-use Prim.Native.Nat.{◌-◌}
 use native.Mathlib.Omega.{arith}
 use mathlib.Core.Path.{◌≡◌, refl}
 use Rattle.text_input.proofs.Lines.{next_start}

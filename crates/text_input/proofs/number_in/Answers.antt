@@ -1,6 +1,5 @@
 -- `text_input::number_in` meets its contract. The invariant: the number is none of those before n, so it is the first of those from n on. The measure: those left.
 -- Assumes nothing.
-use Prim.Native.Nat.{◌-◌}
 use mathlib.Core.Path.{◌∙◌, sym}
 use Rattle.text_input.proofs.Values.{number_found, number_next, number_none}
 use borrow.Author.Rules.{rules}

@@ -1,6 +1,5 @@
 -- `text_input::wrong_line` meets its contract. The invariant: the lines before n are right, so the first wrong line is the first from n on. The measure: the bytes left.
 -- Assumes nothing.
-use Prim.Native.Nat.{◌-◌}
 use native.Mathlib.Omega.{arith}
 use mathlib.Core.Path.{◌∙◌, sym, refl}
 use borrow.Author.Tests.{lt-ltb, le-ltb}
