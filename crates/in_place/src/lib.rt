@@ -65,7 +65,7 @@ pub fn run(
     ran.code
 }
 
-// By value again, for callers that need no walk: a local is lent to the run in place.
+// By value again: a local is lent to the run in place.
 pub fn run_lending(
     r: UnitRecord,
     chain: &[u8],
