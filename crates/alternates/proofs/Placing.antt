@@ -1,6 +1,6 @@
 -- Laws of the places of blocks in a row. No contract cites this file.
 --     length_places, get_places    as many as are asked for, each where its block lies
---     lies_from                     where a block lies by the entries from i on: by none of them (`from_alternates`), by one more (`from_turn`), by
+--     lies_from                    where a block lies by the entries from i on: by none of them (`from_alternates`), by one more (`from_turn`), by
 --                                  all (`from_first`)
 --     own_more                     one place more is the block's own
 --     put_low, put_here, put_high  the block that an entry names is before those of the row, is one of them, is behind them

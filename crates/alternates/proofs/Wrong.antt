@@ -1,7 +1,7 @@
 -- Laws of cause 8's rule for one entry, by its tests in the order of the code. No contract cites this file.
 --     bad_unused, bad_beyond, bad_defective, bad_far, bad_named   the entry is UNUSED; or is beyond the alternates; or is DEFECTIVE; or names none
 --                                                                 of the device's; or names one: then it is as bad as it was named before
---     Met, met_none, met_more     the buckets of the entries before i: where one is empty no entry of it was; one entry more
+--     Met, met_none, met_more                                     the buckets of the entries before i: where one is empty no entry of it was; one entry more
 use Prim.Native.Nat.{ℕ, ◌+◌, ◌%◌, ◌≤◌, ◌<◌}
 use mathlib.Core.Path.{◌≡◌, refl, sym, ap, ◌∙◌}
 use mathlib.Core.Bool.{Bool, true, false, not, ◌&&◌, ◌||◌}

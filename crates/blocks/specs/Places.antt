@@ -4,7 +4,7 @@
 --     AllMovable    the same, of the blocks whose places are listed
 --     PlacesOf      such a list is that of the device's blocks from one on
 --     RowAt         from the one at j on, so many places of a list lie in a row, one at least
---     no_alternate   no alternate of the device is in use: each block lies at its own place
+--     no_alternate  no alternate of the device is in use: each block lies at its own place
 -- Assumes nothing.
 use Rattle.std.specs.Prelude.{ℕ, ◌+◌, ◌*◌, ◌≤◌, ◌<◌, ◌≡◌, Bool, ◌||◌, List, length, get_or}
 use Rattle.numbers.specs.Choice.{◌=?◌}

@@ -1,7 +1,7 @@
 -- The counts of a unit record, as the code carries them while a chain runs.
 --     counts_of                                 the counts of a record
---     counted                                  a record with these counts
---     with_read, with_written, with_movement      n blocks more read, n more written with check, one access movement more
+--     counted                                   a record with these counts
+--     with_read, with_written, with_movement    n blocks more read, n more written with check, one access movement more
 --     no_counts                                 the counts of a log that was reset
 -- Assumes nothing.
 use Rattle.std.specs.Prelude.{ℕ}

@@ -1,14 +1,14 @@
 -- What the code carries from command to command, and what a run and a call leave, beside the definition's words for it.
---     carried_of             what is carried of a state: all but the sense, which stands as the chain found it or is zeros
+--     carried_of              what is carried of a state: all but the sense, which stands as the chain found it or is zeros
 --     left_of, left_at        what a command leaves that found s carried, and what command i leaves in a system
---     left_from              what the run leaves, the chain from command i on, n commands at most: it goes on where `run` does
+--     left_from               what the run leaves, the chain from command i on, n commands at most: it goes on where `run` does
 --     system_of, system_left  the systems that a `Running` and a `Left` stand for, with what is lent
 --     run_of, left_by         the system after the whole chain, and what it leaves; left_call   what a call leaves
---     Begins                command i of the chain begins with a CCW
---     InRun                 what a turn asks for: the chain ends with its CCW or behind it, the state is sound, and there is room for an answer to each CCW left
---     Turned                one turn is the definition's: the promise of `one_turn`
---     Walks, Allowed        so is a run, and a call that no cause refuses
---     called_with            what a call gives, with what was lent
+--     Begins                  command i of the chain begins with a CCW
+--     InRun                   what a turn asks for: the chain ends with its CCW or behind it, the state is sound, and there is room for an answer to each CCW left
+--     Turned                  one turn is the definition's: the promise of `one_turn`
+--     Walks, Allowed          so is a run, and a call that no cause refuses
+--     called_with             what a call gives, with what was lent
 -- Assumes nothing.
 use Rattle.std.specs.Prelude.{ℕ, zero, suc, ◌+◌, ◌-◌, ◌*◌, ◌/◌, ◌≤◌, ◌<◌, ◌≡◌, Bool, true, ◌&&◌, List, length, drop}
 use Rattle.numbers.specs.Choice.{◌=?◌, pick}

@@ -1,7 +1,7 @@
 -- How the code's transfers end.
---     Placed                       the located blocks are not before the extent's first, and not too many
+--     Placed                        the located blocks are not before the extent's first, and not too many
 --     move_of                       what a READ or WRITE moves: by the LOCATE before it, the address rule and its count
---     read_end, write_end, ipl_end    READ, WRITE and READ IPL, once their bytes are moved
+--     read_end, write_end, ipl_end  READ, WRITE and READ IPL, once their bytes are moved
 -- Assumes nothing.
 use Rattle.std.specs.Prelude.{ℕ, ◌+◌, ◌*◌, ◌≤◌, min}
 use Rattle.numbers.specs.Choice.{◌=?◌, pick}

@@ -1,12 +1,12 @@
 -- How the code's command ends, and what that says of the definition's.
---     answer_words, answer_bytes   an answer as the code carries it, and its bytes, once the residual of a piece is in it (with_residual)
---     marked                     those bytes, where the length is wrong
---     wrong_told, wrong_by         the length is wrong, by what the code carries of the command; of an accepted command alone
+--     answer_words, answer_bytes  an answer as the code carries it, and its bytes, once the residual of a piece is in it (with_residual)
+--     marked                      those bytes, where the length is wrong
+--     wrong_told, wrong_by        the length is wrong, by what the code carries of the command; of an accepted command alone
 --     end_of                      what `end` makes, whole; accepted_end   of a command that is accepted
 --     parameters_refused          of one that its parameters refuse, so many bytes of which were read; refused_end   of one that has read none
---     Leaves                     what is left of the unit is what the definition's command left, and nothing in it is open
---     Ends                       so is all that a command gives
---     Performs                   so it is of a command that the channel and the unit passed on: the promise of every command
+--     Leaves                      what is left of the unit is what the definition's command left, and nothing in it is open
+--     Ends                        so is all that a command gives
+--     Performs                    so it is of a command that the channel and the unit passed on: the promise of every command
 -- Assumes nothing.
 use Rattle.std.specs.Prelude.{ℕ, ◌+◌, ◌*◌, ◌≡◌, Bool, true, false, not, ◌&&◌, List, ◌++◌, set}
 use Rattle.numbers.specs.Choice.{◌=?◌}

@@ -1,13 +1,13 @@
 -- A promise determines its result: two results that it allows are equal. One theorem for each form that a promise takes.
---     same_by         a result that is named, `r ≡ f x`: most functions, and the call with every buffer in one record
---     told_unique     a test that is true exactly where a fact holds
---     ends_unique     a command's ending with the two storages and the map, `Ends (holding u map) c s r main store ..`
+--     same_by                           a result that is named, `r ≡ f x`: most functions, and the call with every buffer in one record
+--     told_unique                       a test that is true exactly where a fact holds
+--     ends_unique                       a command's ending with the two storages and the map, `Ends (holding u map) c s r main store ..`
 --     next_unique                       what is left of an area behind a piece
 --     decoded_unique                    the command that a CCW begins
 --     status_unique, channel_unique     a status that is known by its byte
 --     log_unique                        a log that is known by its bytes
 --     walks_unique, allowed_unique      the run of a chain, and of one that no cause refuses
---     by_value_unique, in_place_unique         the run, by value and in place
+--     by_value_unique, in_place_unique  the run, by value and in place
 -- docs/PROOFS.md lists which function has which form. Assumes nothing.
 use Prim.Native.Nat.{ℕ, ◌+◌, ◌-◌}
 use mathlib.Core.Path.{◌≡◌, refl, sym, ap, ◌∙◌}

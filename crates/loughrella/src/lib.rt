@@ -1,5 +1,5 @@
-// What C calls: a chain run, a class of chains run, a unit record set up, an alternate given back. include/loughrella.h says it to a C
-// programmer. None has a requires: any slices get the result, and are left with the bytes, that the definition says.
+// What C gets by way of `loughrella_c`: a chain run, a class of chains run, a unit record set up, an alternate given back.
+// None has a requires: any slices get the result, and are left with the bytes, that the definition says.
 #![tactic(auto)]
 
 pub mod class;
@@ -21,8 +21,7 @@ use record::{new_record, pack};
 use slices::clear;
 
 // The chain is run. 256 times the cause plus the commands reached.
-#[unsafe(no_mangle)]
-pub extern "C" fn loughrella_run(
+pub fn loughrella_run(
     chain: &[u8],
     storage: &mut [u8],
     store: &mut [u8],
@@ -43,8 +42,7 @@ pub extern "C" fn loughrella_run(
 }
 
 // A class is run: the chains of one buffer, one after the other. 0, or 256 times 7.
-#[unsafe(no_mangle)]
-pub extern "C" fn loughrella_run_class(
+pub fn loughrella_run_class(
     chains: &[u8],
     storage: &mut [u8],
     store: &mut [u8],
@@ -70,8 +68,7 @@ pub extern "C" fn loughrella_run_class(
 }
 
 // The record of a new unit, ready or not, read-only or not. 0, or 256 times 6.
-#[unsafe(no_mangle)]
-pub extern "C" fn loughrella_record(unit: &mut [u8], ready: u8, read_only: u8) -> u32
+pub fn loughrella_record(unit: &mut [u8], ready: u8, read_only: u8) -> u32
     ensures { record { result = result; unit = unit.new } ≡ set_up unit.old ready read_only }
 {
     if unit.len() != sizes::UNIT_RECORD {
@@ -83,13 +80,7 @@ pub extern "C" fn loughrella_record(unit: &mut [u8], ready: u8, read_only: u8) -
 }
 
 // The alternate of a block is given back. 0, or 256 times the cause.
-#[unsafe(no_mangle)]
-pub extern "C" fn loughrella_give_back(
-    store: &mut [u8],
-    alternates: u32,
-    unit: &mut [u8],
-    block: u32,
-) -> u32
+pub fn loughrella_give_back(store: &mut [u8], alternates: u32, unit: &mut [u8], block: u32) -> u32
     ensures { record { result = result; store = store.new; unit = unit.new } ≡ give_back alternates store.old unit.old block }
 {
     let device = Device::class_a(alternates);

@@ -1,5 +1,5 @@
 -- Demand 2: every cause is given exactly when its rule says.
---     command_once, call_once, host_once   no table has a cause twice: computed, for each command's whole table
+--     command_once, call_once, host_once  no table has a cause twice: computed, for each command's whole table
 --     step_exactly     a command: for each line of its whole table, the channel's, the unit's and its own
 --     call_exactly     the call: causes 1 to 5 and 8
 --     host_exactly     the call from C: causes 1 to 6 and 8, as its one number shows them

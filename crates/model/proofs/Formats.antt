@@ -1,5 +1,5 @@
 -- What a format makes of a map, and of where blocks lie.
---     entry_taken, entry_flagged, entry_kept   the entries of the new map: the one that is taken, the old one, and all others
+--     entry_taken, entry_flagged, entry_kept  the entries of the new map: the one that is taken, the old one, and all others
 --     lies_other       a format changes where its own block lies, and of no other
 --     Right            what cause 8's rule says of a map that it passes; right_of, right_is   it is that, both ways
 --     lies_named       in such a map the block that an entry names lies there

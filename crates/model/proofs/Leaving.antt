@@ -1,7 +1,7 @@
 -- Laws of the kinds of causes. No contract cites this file.
---     leaves_ind, leaves_both   a property of what each kind leaves is one of what a command leaves
---     channel_refused           the channel status of a refusal does not look at the length
---     status_byte, channel_byte   the statuses are bytes
+--     leaves_ind, leaves_both    a property of what each kind leaves is one of what a command leaves
+--     channel_refused            the channel status of a refusal does not look at the length
+--     status_byte, channel_byte  the statuses are bytes
 use Prim.Native.Nat.{ℕ, ◌<◌}
 use mathlib.Core.Path.{◌≡◌, refl}
 use mathlib.Core.Bool.{Bool, true, false}

@@ -4,7 +4,7 @@
 --     some_counts, all_inside    so there is a byte in all, and each piece is in main storage
 --     length_gathered, length_scattered, bytes_gathered, bytes_scattered
 --                                lengths, and that bytes stay bytes
---     ccws_in_lem, next_left         the commands of a chain have all its CCWs between them, and each has one at least
+--     ccws_in_lem, next_left     the commands of a chain have all its CCWs between them, and each has one at least
 --     command_small              in a chain of bytes each count is small
 --     spread_few, spread_small   bytes over pieces: how many they fill, and what they leave of a count
 -- No contract cites this file.

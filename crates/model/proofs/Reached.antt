@@ -1,10 +1,10 @@
 -- Demands 1 and 2, of a whole chain (`specs/Reached.antt`).
---     run_found        a run leaves what its commands find one after another, and goes on after each but the last; found_after   their answers are dense
---     next_refused     a refused command leaves what it found, but for its answer and its sense
+--     run_found            a run leaves what its commands find one after another, and goes on after each but the last; found_after   their answers are dense
+--     next_refused         a refused command leaves what it found, but for its answer and its sense
 --     found_kept, found_rest
---                      an answer that was put stays; bytes behind the answers that were put are as they were lent
---     run_each, call_each   the run, and the call
---     call_numbers     of a call that is lent bytes, each answer holds its numbers whole
+--                          an answer that was put stays; bytes behind the answers that were put are as they were lent
+--     run_each, call_each  the run, and the call
+--     call_numbers         of a call that is lent bytes, each answer holds its numbers whole
 -- Assumes nothing.
 use Prim.Native.Nat.{ℕ, zero, suc, ◌+◌, ◌*◌, ◌≤◌, ◌<◌}
 use mathlib.Core.Path.{◌≡◌, refl, sym, ap, ◌∙◌}

@@ -1,10 +1,10 @@
 -- The unit record and its 290 bytes: there and back, both ways.
---     unit_length, unit_bytes_lem   all of a record but its map has 34 bytes
---     record_of_lem, map_of_lem         290 bytes hold a unit record, and its map
---     record_front              all of the record but its map is the first 34 of them
+--     unit_length, unit_bytes_lem  all of a record but its map has 34 bytes
+--     record_of_lem, map_of_lem    290 bytes hold a unit record, and its map
+--     record_front                 all of the record but its map is the first 34 of them
 --     record_back, map_back, bytes_back
---                               nothing is lost on either way
---     map_replaced              nor where the map is another
+--                                  nothing is lost on either way
+--     map_replaced                 nor where the map is another
 -- No contract cites this file.
 use Prim.Native.Nat.{ℕ, ◌+◌, ◌≤◌}
 use mathlib.Core.Path.{◌≡◌, refl, sym, ap, ◌∙◌}

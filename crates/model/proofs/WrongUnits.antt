@@ -1,9 +1,9 @@
 -- Document 01, How far a promise reaches: the units that demand 2 shuts out. Each differs from the definition on an input.
 --     refuses_all      refuses every chain
 --     ends_all         answers 0C to all
---     idle            touches no buffer
+--     idle             touches no buffer
 --     first_only       runs the first command, and only writes answers for the later ones
---     invents_blocks, invents_counts   invents blocks moved, or log counts
+--     invents_blocks, invents_counts  invents blocks moved, or log counts
 -- Each but the first is right in all else, so that only what its name says is told apart. Assumes nothing.
 use Prim.Native.Nat.{ℕ, zero, suc, ◌+◌, ◌*◌}
 use mathlib.Core.Path.{◌≡◌, refl, sym, ap, ◌∙◌}

@@ -1,13 +1,13 @@
 -- The alternates of a device, and the map that says which block lies at which of them (02, ask 4).
---     map_entries, entry_size, map_size   "a map, 64 entries of four bytes"
+--     map_entries, entry_size, map_size  "a map, 64 entries of four bytes"
 --     entry_at, with_entry               entry i of a map; the map with another one there
---     is_unused, is_defective, is_name    what an entry says: nothing yet, that its alternate is defective, or a block
---     alternate_of                      the alternate that a block is mapped to; where there is none, the number of alternates
---     lies                             where a block lies, of all blocks of the store: by this, and by nothing else, blocks are reached
---     unused_in                         the alternate that a format takes; where there is none, the number of alternates
---     formatted                        the map after a format
---     unmapped                         the map after a mapped block was given its own place back (02, ask 6)
---     bad_map                           cause 8's rule
+--     is_unused, is_defective, is_name   what an entry says: nothing yet, that its alternate is defective, or a block
+--     alternate_of                       the alternate that a block is mapped to; where there is none, the number of alternates
+--     lies                               where a block lies, of all blocks of the store: by this, and by nothing else, blocks are reached
+--     unused_in                          the alternate that a format takes; where there is none, the number of alternates
+--     formatted                          the map after a format
+--     unmapped                           the map after a mapped block was given its own place back (02, ask 6)
+--     bad_map                            cause 8's rule
 -- The store's blocks are the primaries, then the alternates. `alternates` and `primaries` are how many of them there are. Assumes nothing.
 use Rattle.std.specs.Prelude.{ℕ, ◌+◌, ◌*◌, Bool, not, ◌&&◌, ◌||◌, List}
 use Rattle.numbers.specs.Big.{be4, bytes4}

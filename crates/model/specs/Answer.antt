@@ -1,8 +1,8 @@
 -- The answers to one command (01, What is lent: Answers; 02, ask 2), and whether the chain goes on after it.
---     unit_status, channel_status   the two statuses, by how the command ended; channel_by   with the length right or wrong
+--     unit_status, channel_status  the two statuses, by how the command ended; channel_by   with the length right or wrong
 --     wrong_length                 the sum of the counts is not what the command can move
---     residual, filled            what is left of the count of the last piece reached, and the pieces reached before it
---     answer_of, answer_size        the bytes of that piece's answer, and how many they are
+--     residual, filled             what is left of the count of the last piece reached, and the pieces reached before it
+--     answer_of, answer_size       the bytes of that piece's answer, and how many they are
 --     answers_of, answered         the answers of all pieces reached, and how many they are
 --     goes_on                      the chain goes on after it
 -- Assumes nothing.

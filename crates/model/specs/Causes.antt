@@ -1,16 +1,16 @@
 -- The table of causes (01, Causes): each cause with the rule by which it is given, in 01's order.
 --     call_causes            1 to 5, 8          before any command; up to 5 in lent_causes, 8 in map_causes
 --     host_causes            1 to 6, 8          the same, where the unit record comes as bytes; 6 in record_causes
---     give_back_causes        2, 6, 8, 50, 51    where an alternate is given back; up to 8 in device_causes, 50 and 51 in return_causes
+--     give_back_causes       2, 6, 8, 50, 51    where an alternate is given back; up to 8 in device_causes, 50 and 51 in return_causes
 --     channel_causes         13, 10, 11, 12     the channel's own tests of a command: program checks; from 10 on in piece_causes
 --     unit_causes            44, 43             the unit's tests of any command that it sees
---     define_extent_causes    20 to 26           the commands' own tests; from 22 on in extent_causes
+--     define_extent_causes   20 to 26           the commands' own tests; from 22 on in extent_causes
 --     locate_causes          30 to 39           from 32 on in location_causes, from 36 on in permission_causes
---     read_ipl_causes         40
+--     read_ipl_causes        40
 --     transfer_causes        41, 42             READ and WRITE
 --     kind_of                how a cause ends its command; bytes_read   what its command has read of its parameters
 --     bad_chain, bad_store, no_command and their like
---                           rules of more than one test, each above its table; contracts cite them
+--                            rules of more than one test, each above its table; contracts cite them
 --     causes_of              all the lines that can apply to a command, in order; `verdict` is the first that holds
 -- Where 002 overrules 01 a line says so. Assumes nothing.
 use Rattle.std.specs.Prelude.{ℕ, zero, suc, ◌+◌, ◌/◌, ◌%◌, Bool, true, false, not, ◌&&◌, ◌||◌, List, [], ◌∷◌, ◌++◌, length}

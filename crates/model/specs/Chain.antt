@@ -3,8 +3,8 @@
 --     next     the system after command i;  more   whether the chain goes on after it
 --     run      the chain from command i on, n commands at most
 --     start    the state at a chain's beginning
---     call_of   01, What is lent and Causes: refused as a whole by 1 to 5 or 8, or the chain run, on a device; Called   what it gives
---     class_a   the device of every call of ours, by its alternates;  call   the call on it
+--     call_of  01, What is lent and Causes: refused as a whole by 1 to 5 or 8, or the chain run, on a device; Called   what it gives
+--     class_a  the device of every call of ours, by its alternates;  call   the call on it
 -- Assumes nothing.
 use Rattle.std.specs.Prelude.{ℕ, zero, suc, ◌+◌, ◌*◌, Bool, false, List, length}
 use Rattle.slices.specs.Parts.{put}

@@ -2,9 +2,9 @@
 --     chains_in       the chains of a buffer; none where "the lengths don't end at the buffer's end"
 --     result_size     the results of a chain of this length: head_size bytes, then room for its answers; results_of   of all chains of a class
 --     mark_of         a chain's call, on its own part of the results; Marked   what it leaves of all that is lent
---     mark_each_of     the calls of all chains, one after the other
+--     mark_each_of    the calls of all chains, one after the other
 --     bad_class       cause 7's rule
---     run_class_of     refused as a whole by 7, or every chain marked; ClassRun   its result, and what is left; run_class   on the device of every call of ours
+--     run_class_of    refused as a whole by 7, or every chain marked; ClassRun   its result, and what is left; run_class   on the device of every call of ours
 -- Assumes nothing.
 use Rattle.std.specs.Prelude.{ℕ, zero, suc, ◌+◌, ◌*◌, ◌/◌, ◌%◌, Bool, true, List, [], ◌∷◌, ◌++◌, length, take, drop}
 use Rattle.std.proofs.Math.Option.{Option, none, some, map, get_or}

@@ -3,7 +3,7 @@
 --     leaves     what a command leaves of the state, by the kind of its cause
 --     ending     how a command ends, accepted or refused: the numbers of its answer, and what it leaves
 --     begun      the blocks that so many bytes begin
---     map_after   the map that a LOCATE leaves: another one after a format
+--     map_after  the map that a LOCATE leaves: another one after a format
 --     no_operation, define_extent, locate, read, write, read_ipl, sense, sense_type, read_log
 --                an accepted command; define_done and the like are its ending, beside the bytes that it moves
 --     refused    a command that was given a cause, and with it this sense (sense_given)

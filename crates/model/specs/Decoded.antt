@@ -2,7 +2,7 @@
 --     pieces_from   the pieces of n CCWs from one on
 --     area_of       the data area that an `Area` stands for
 --     command_of    the command that a `Decoded` stands for
---     Decodes      its numbers are those of its CCWs
+--     Decodes       its numbers are those of its CCWs
 -- Assumes nothing.
 use Rattle.std.specs.Prelude.{ℕ, zero, suc, ◌+◌, ◌-◌, ◌*◌, ◌≤◌, ◌<◌, ◌≡◌, List, [], ◌∷◌, length}
 use Rattle.model.specs.declared.ccw.Piece.{Piece}

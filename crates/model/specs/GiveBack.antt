@@ -1,6 +1,6 @@
 -- An alternate is given back (02, ask 6): the tool, as C calls it.
 --     brought_home   the store after it: the block's data at its own place, and zeros where it lay
---     give_back_of    refused by 2, 6, 8, 50 or 51, or done, on a device; GivenBack   its result, and what is left of store and record
+--     give_back_of   refused by 2, 6, 8, 50 or 51, or done, on a device; GivenBack   its result, and what is left of store and record
 --     give_back      the same on the device of every call of ours
 -- What it makes of the map is `unmapped` in Alternates.antt, its causes are in Causes.antt. It is no command: of the record it looks at
 -- the map alone, whether or not the unit is ready or read-only, and sense and counts stay. Assumes nothing.

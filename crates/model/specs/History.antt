@@ -1,10 +1,10 @@
 -- The history of a device, and what it says of the alternates (02, ask 6): "Starting from an empty map, used, unused and defective, each
 -- counted from the history of formats and returns, are as the map shows and sum to the device's number."
 --     Event        what changes a map: a format of a block that was done, or a return
---     mapped_by     by a history, a block is mapped
+--     mapped_by    by a history, a block is mapped
 --     used_by, unused_by, defective_by
 --                  the alternates that are used, unused, defective, by a history; the map is not looked at
---     how_many      how many of the device's alternates have such an entry in the map
+--     how_many     how many of the device's alternates have such an entry in the map
 --     Act          a call on a device: a chain run, a class marked, or a block given back; Held   what it finds of the device, and leaves
 --     format_of, formats_in, formats_of, formats_each
 --                  the formats that were done: by a command, from a command of a chain on, by a chain, by the chains of a class

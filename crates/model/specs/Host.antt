@@ -1,5 +1,5 @@
 -- The call as C makes it: the unit record comes and goes as bytes, and the result is one number.
---     host_call_of   refused as a whole by 1 to 6 or 8, or the call
+--     host_call_of  refused as a whole by 1 to 6 or 8, or the call
 --     result_of     "256 times the cause plus" the commands reached
 --     set_up        the bytes of a new unit's record, where there are 290 of them
 -- Assumes nothing.

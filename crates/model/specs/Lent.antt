@@ -1,14 +1,14 @@
 -- What is lent (01, What is lent), and how each of it is reached.
 --     code_at, piece_at, ccw_size  a CCW of the chain, taken apart: its command byte and its piece of a data area; and its bytes
---     flag                    a flag of a CCW is on
---     store_blocks             all blocks of the store, primaries and alternates; block_count   the device's, which are the primaries
---     alternate_at             the bytes of an alternate
---     block_start              where a block begins in the store, by way of the map; blocks are reached by this and by nothing else
---     block_at                 the bytes of a block: what READ shows of it
---     blocks_from, blocks_into  some blocks from one on: as READ sees them, and as WRITE leaves them
+--     flag                         a flag of a CCW is on
+--     store_blocks                 all blocks of the store, primaries and alternates; block_count   the device's, which are the primaries
+--     alternate_at                 the bytes of an alternate
+--     block_start                  where a block begins in the store, by way of the map; blocks are reached by this and by nothing else
+--     block_at                     the bytes of a block: what READ shows of it
+--     blocks_from, blocks_into     some blocks from one on: as READ sees them, and as WRITE leaves them
 --     record_bytes, record_of, map_of, record_size
---                             the unit record, all but its map, and its map; and their 290 bytes
---     new_record, new_map       the record of a new unit
+--                                  the unit record, all but its map, and its map; and their 290 bytes
+--     new_record, new_map          the record of a new unit
 -- `dev` is the device: its numbers, one value. Assumes nothing.
 use Rattle.std.specs.Prelude.{ℕ, zero, suc, ◌+◌, ◌-◌, ◌*◌, ◌/◌, Bool, List, [], ◌∷◌, ◌++◌, length, get_or, drop}
 use Rattle.numbers.specs.Bits.{bit}

@@ -1,9 +1,9 @@
 -- The counts of the unit record, and the log that shows them (01, READ AND RESET BUFFERED LOG; 002, 5.8).
---     with_sense and the like   a record with one field changed
+--     with_sense and the like  a record with one field changed
 --     added3, added2           "A sum too large for its field becomes the largest value the field holds"
 --     read_counted, written_counted, movement_counted
 --                              the record after so many blocks read, or written with check, or one access movement
---     log_of, log_reset          the 24 bytes of the log, and the record once they are reset
+--     log_of, log_reset        the 24 bytes of the log, and the record once they are reset
 -- Assumes nothing.
 use Rattle.std.specs.Prelude.{ℕ, ◌+◌, min, List, [], ◌∷◌}
 use Rattle.numbers.specs.Big.{be2, be3, bytes2, bytes3}

@@ -1,14 +1,14 @@
 -- Demand 3, a data set can be moved: what two calls have in common before, and what they then have in common after.
 --     Own                    what each call is lent of its own: main storage and the store
 --     InChain                a command that the chain can come to
---     place_of                where in main storage a byte of a command's data area stands
+--     place_of               where in main storage a byte of a command's data area stands
 --     OneExtent, ParametersLie, ParametersApart, ParametersAlone, SameButOffset, HasRoom, NoneMapped, SameAlternates, SameData
 --                            the sentences of the demand, one each
 --     named, SameMaps        an entry with the extent's blocks named by displacement, and two maps that are equal so
 --     MovedAnyMap, Moved     all of them but NoneMapped, and all of them
 --     SameLent               what was lent ends alike
 --     SameAfter, SameHosted  what they come to, and the same of two calls from C
--- Chain, unit record and answers are the same in both calls, and so is the map that they begin with. That `Moved` gives `SameAfter` is `Moved-same` in
+-- Chain, unit record and answers are the same in both calls, and so is the map that they begin with. That `Moved` gives `SameAfter` is `moved_same` in
 -- `proofs/MovedRun.antt`. A sentence of the demand is not asked for: that the first displacement is not above the last. Where it
 -- fails the DEFINE EXTENT is refused in both calls, and alike.
 -- No rule of the unit stands here, and none of them cites this file. Assumes nothing.

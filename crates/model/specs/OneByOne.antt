@@ -1,10 +1,10 @@
 -- Request 3's theorem: a class leaves, and gives each of its chains, what the calls one by one would.
---     Finds        what a chain finds of storage, store and record
+--     Finds         what a chain finds of storage, store and record
 --     after_call    what its call leaves of them
 --     found_by      what chain i finds: the calls of the chains before it made, one after the other
 --     result_at     where the result of chain i begins in what is lent; room_at, room_length   its room, behind the head
 --     call_on       its call, on what it finds: it is lent its own room; call_at   its call in a class that finds f
---     OneByOne     what a class leaves, by these; all else of the results stays
+--     OneByOne      what a class leaves, by these; all else of the results stays
 -- `proofs/OneByOne.antt` proves it of every class that cause 7 does not refuse. Assumes nothing.
 use Rattle.std.specs.Prelude.{ℕ, zero, suc, ◌+◌, ◌-◌, ◌*◌, ◌/◌, ◌%◌, ◌≤◌, ◌<◌, ◌≡◌, List, [], length, get_or, take}
 use Rattle.numbers.specs.Big.{be2}

@@ -1,5 +1,5 @@
 -- The parameters of DEFINE EXTENT and of LOCATE, taken apart, and what an extent says of a displacement.
---     extent_in, size_in, reserved_in       01, DEFINE EXTENT; 002, 2.1.3: the sixteen bytes
+--     extent_in, size_in, reserved_in    01, DEFINE EXTENT; 002, 2.1.3: the sixteen bytes
 --     located_in, modifiers_in, replication_in, processed
 --                                        01, LOCATE; 002, 2.1.4: the eight bytes
 --     operations, reads, writes          the five operations

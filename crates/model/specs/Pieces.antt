@@ -1,7 +1,7 @@
 -- A command is a run of CCWs (02, ask 2: data chaining): what its pieces are, what is gathered from them, and how bytes are
 -- scattered to them. The commands themselves do not know of pieces.
 --     Command               the command's own byte, and its pieces: the first, and those that flag 80 adds; pieces   all of them
---     commands_in            the commands of a chain, in order; command_at   one of them, counted from 0
+--     commands_in           the commands of a chain, in order; command_at   one of them, counted from 0
 --     total, final          the sum of the counts; the last piece, whose flags 40 and 20 hold for the command
 --     fetched, delivered    bytes from, and to, the command's data area in main storage
 --     Spread, spread        some bytes over the pieces, in turn: the pieces that they fill, and what they leave of the next one's count

@@ -1,6 +1,6 @@
 -- How a table of causes is read: a line for each cause with its rule, and the first line whose rule holds gives the verdict.
---     _when_      a line of a table: this cause, when this holds
---     first_of     the verdict: the cause of the first line whose rule holds, or 0
+--     ◌when◌      a line of a table: this cause, when this holds
+--     first_of    the verdict: the cause of the first line whose rule holds, or 0
 -- Assumes nothing.
 use Rattle.std.specs.Prelude.{ℕ, Bool, List, [], ◌∷◌}
 use Rattle.numbers.specs.Choice.{pick}

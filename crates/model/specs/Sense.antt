@@ -1,6 +1,6 @@
 -- The sense bytes of each cause (01, Causes; 002, 5.1 to 5.3). docs/SENSE.md says why each is what it is.
 --     sense_table   bytes 0, 1 and 7 of each unit check: one table
---     shown        the parameters that a cause shows
+--     shown         the parameters that a cause shows
 --     sense_of      the 24 bytes of a refusal that shows these
 -- Assumes nothing.
 use Rattle.std.specs.Prelude.{ℕ, List, [], ◌∷◌}

@@ -1,5 +1,5 @@
 -- Big-endian numbers (01, What is lent: "All numbers here are big-endian").
---     be2 be3 be4     the number in 2, 3 or 4 bytes of a list, from a place on
+--     be2 be3 be4            the number in 2, 3 or 4 bytes of a list, from a place on
 --     bytes2 bytes3 bytes4   the bytes of a number, its low 16, 24 or 32 bits
 -- Assumes nothing.
 use Rattle.std.specs.Prelude.{ℕ, ◌+◌, ◌*◌, ◌/◌, ◌%◌, List, [], ◌∷◌, get_or}

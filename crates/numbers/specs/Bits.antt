@@ -1,6 +1,6 @@
 -- The bits of a byte, numbered as FIPS 97 numbers them: bit 0 is the leftmost.
 --     bit      bit n of the byte is one
---     any_bit   one of the listed bits is one
+--     any_bit  one of the listed bits is one
 -- Assumes nothing.
 use Rattle.std.specs.Prelude.{ℕ, ◌-◌, ◌/◌, ◌%◌, ◌^◌, Bool, false, ◌||◌, List, [], ◌∷◌, eqb}
 

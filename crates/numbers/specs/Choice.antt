@@ -1,6 +1,6 @@
 -- Tests of numbers, as values that a rule can hold, and what is chosen by one.
---     _<?_ _=?_   less, equal
---     one_of       a number is among those listed
+--     ◌<?◌ ◌=?◌   less, equal
+--     one_of      a number is among those listed
 --     pick        one of two, by a test
 -- Assumes nothing.
 use Rattle.std.specs.Prelude.{ℕ, Bool, true, false, ◌||◌, List, [], ◌∷◌, ltb, eqb}

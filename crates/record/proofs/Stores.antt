@@ -2,7 +2,7 @@
 --     counts_stored          of `put_counts`: the record that was there, with these counts
 --     record_stored          of `pack`: the record
 --     sense_made, sense_is   of `put_sense`: the sense of a unit check; that of any other chain, which is still what was found, or none
---     unit_left_lem              what a chain leaves of a record: another sense, other counts, and the rest as it was
+--     unit_left_lem          what a chain leaves of a record: another sense, other counts, and the rest as it was
 --     left_stored            of `pack_left`: the record that is left
 -- No contract cites this file.
 use Prim.Native.Nat.{ℕ, ◌+◌, ◌≤◌}

@@ -1,9 +1,9 @@
 -- Parts of byte lists. Whatever moves bytes is said in these words.
---     zeros   n bytes of zero
---     part    the n bytes from a place on
---     put     a list with other bytes in the place of its own, from a place on
---     pad     exactly n bytes: those given, then zeros
---     most_copied   the bytes that one copy moves at most
+--     zeros        n bytes of zero
+--     part         the n bytes from a place on
+--     put          a list with other bytes in the place of its own, from a place on
+--     pad          exactly n bytes: those given, then zeros
+--     most_copied  the bytes that one copy moves at most
 -- They stay shut; the laws about them are in `proofs/Laws.antt`. Assumes nothing.
 use Rattle.std.specs.Prelude.{ℕ, ◌+◌, ◌-◌, List, ◌++◌, length, take, drop, replicate}
 

@@ -1,14 +1,14 @@
 -- Text as bytes, and numbers and bytes as text (01, Each side of the lines: "Decimal has no leading zero, hex is upper case").
---     ascii      the bytes of a text that is written out here
---     digit      the character of a digit: 0 to 9, then A to F
---     decimal    a number in decimal
+--     ascii       the bytes of a text that is written out here
+--     digit       the character of a digit: 0 to 9, then A to F
+--     decimal     a number in decimal
 --     six_digits  the least number with more than five
---     hex        bytes in hexadecimal, two digits each
+--     hex         bytes in hexadecimal, two digits each
 --     value_of    the digit that a character stands for; of a character that is no digit, some digit
 --     is_digit    a character stands for a digit exactly where it is that digit's character
 --     is_hex      bytes could be written so: an even number of digits, and nothing else
 --     bytes_in    the bytes that were written so
---     same       two lists of bytes are equal
+--     same        two lists of bytes are equal
 -- Assumes nothing.
 use Rattle.std.specs.Prelude.{ℕ, zero, suc, ◌+◌, ◌*◌, ◌/◌, ◌%◌, Bool, true, false, ◌&&◌, List, [], ◌∷◌, ◌++◌, length}
 use Prim.Native.Char.{code}

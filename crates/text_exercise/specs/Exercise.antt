@@ -1,8 +1,8 @@
 -- The program `exercise` as a function of its input (01, Each side of the lines).
 --     device      its blocks are of 512 bytes, and it has no alternates
---     new_store    "Block i starts filled with byte i"
---     most_store   the bytes of the largest store
---     new_unit     the record of the unit, as the settings have it
+--     new_store   "Block i starts filled with byte i"
+--     most_store  the bytes of the largest store
+--     new_unit    the record of the unit, as the settings have it
 --     exercised   the call that an exercise asks for, on a new unit; its answers start as zeros
 --     exercise    what is printed, for every input
 -- Assumes nothing.

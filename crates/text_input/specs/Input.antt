@@ -1,12 +1,12 @@
 -- The input (01, Each side of the lines): "exactly these keys in this order, then 1 to 32 ccw lines, each line ended by a line feed".
---     lines         the input's lines, each with the line feed that ends it; the last may have none, and is then wrong
---     Field         a key, and the least and the most that its value may be; the five fields are the format
---     keyed         a line is a key, a value and a line feed
+--     lines          the input's lines, each with the line feed that ends it; the last may have none, and is then wrong
+--     Field          a key, and the least and the most that its value may be; the five fields are the format
+--     keyed          a line is a key, a value and a line feed
 --     number_of      the number in a line, or one past the most
 --     bytes_of       the bytes in a line, of one that is right
 --     right_line     line n is what it must be
 --     wrong_line     the number of the first wrong or missing line, or 0
---     most_blocks, most_storage, most_chain   the most blocks of a device, bytes of main storage and bytes of a chain
+--     most_blocks, most_storage, most_chain  the most blocks of a device, bytes of main storage and bytes of a chain
 --     exercise_in    what an input with no wrong line says
 -- Lines are numbered from 1. Assumes nothing.
 use Rattle.std.specs.Prelude.{ℕ, zero, suc, ◌+◌, ◌-◌, ◌*◌, ◌/◌, Bool, false, not, ◌&&◌, List, [], ◌∷◌, ◌++◌, length, get_or, take, drop}

@@ -1,5 +1,5 @@
 -- How an input is read, line by line, for the functions that do it. Assumes nothing.
---     line_length   the bytes of the first line: up to the first line feed, with it; all of them where there is none
+--     line_length  the bytes of the first line: up to the first line feed, with it; all of them where there is none
 --     held         the bytes that a line holds in hexadecimal, after a key of that length and before its line feed
 --     ReadTo       bytes go to the front of `to`, where they fit and which then is `back`; n is their number
 use Rattle.std.specs.Prelude.{ℕ, suc, ◌+◌, ◌-◌, ◌/◌, ◌≤◌, ◌≡◌, List, [], ◌∷◌, length}

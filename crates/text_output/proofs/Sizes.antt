@@ -1,6 +1,6 @@
 -- How long a printout is at most. No contract cites this file.
 --     Within        a text has no more than n bytes
---     most_printed   the bytes of the longest printout
+--     most_printed  the bytes of the longest printout
 use Prim.Native.Nat.{ℕ, zero, suc, ◌+◌, ◌*◌, ◌≤◌, ◌<◌}
 use native.Mathlib.Omega.{arith}
 use mathlib.Core.Path.{◌≡◌, refl}

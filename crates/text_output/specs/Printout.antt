@@ -1,10 +1,10 @@
 -- What is printed (01, Each side of the lines: "Output, whole").
---     line           a key, its value and a line feed
+--     line            a key, its value and a line feed
 --     refused_line    of an input with a wrong line: that line's number, and nothing else
 --     status_lines    of a command: "its number, both statuses (hex)"
 --     count_lines     of a command: "residual, cause, blocks moved"
 --     command_lines   of each command reached, in order; an output line more for each command has its place in one of the two above
---     printout       of a call, whole: "the call's cause and commands reached", those of its commands, "then main storage and sense"
+--     printout        of a call, whole: "the call's cause and commands reached", those of its commands, "then main storage and sense"
 -- Assumes nothing.
 use Rattle.std.specs.Prelude.{ℕ, zero, suc, ◌+◌, ◌*◌, List, [], ◌∷◌, ◌++◌, get_or}
 use Rattle.numbers.specs.Big.{be2}

@@ -1,5 +1,5 @@
 -- Laws of what is carried: the state of the definition that it stands for. No contract cites this file.
---     started_state, went_on_lem, with_extent_lem, with_locate_lem, passed_on_lem   of each way to go on
+--     started_state, went_on_lem, with_extent_lem, with_locate_lem, passed_on_lem  of each way to go on
 --     same_counts                           the counts that are carried are the record's
 --     empty                                 some record
 --     left_any, left_map                    what is left of a record but its map does not go by the map, and the map is left

@@ -1,13 +1,13 @@
 -- What the code carries while a chain runs, beside the record that the chain found, and what it stands for in the definition. The map is
 -- not carried: it stays where it is lent. Below, u is the record that the chain found, with the map as it is now (`holding`).
 --     started, went_on, with_extent, with_locate, passed_on
---                                 what is carried: at the start, after a command that zeroed the sense, with another extent, with
---                                 another LOCATE, after a command that changed nothing
---     holding                     a record with this map
---     sense_now, unit_of, state_of   the pending sense, the unit record and the state that a `Running` stands for
---     state_left                   the state that a `Left` stands for: how its cause leaves the one that is carried; unit_left   its record
---     Sound                       a device that a chain may run on, with its store and map, and a state that is safe on it, whatever record the chain found
---     Handed                      a command of this chain that the channel passed on: each of its pieces is in main storage
+--                                   what is carried: at the start, after a command that zeroed the sense, with another extent, with
+--                                   another LOCATE, after a command that changed nothing
+--     holding                       a record with this map
+--     sense_now, unit_of, state_of  the pending sense, the unit record and the state that a `Running` stands for
+--     state_left                    the state that a `Left` stands for: how its cause leaves the one that is carried; unit_left   its record
+--     Sound                         a device that a chain may run on, with its store and map, and a state that is safe on it, whatever record the chain found
+--     Handed                        a command of this chain that the channel passed on: each of its pieces is in main storage
 -- The run, the unit and the commands ask each other for `Sound` and `Handed`. Assumes nothing.
 use Rattle.std.specs.Prelude.{ℕ, Bool, true, false, List, []}
 use Rattle.numbers.specs.Choice.{pick}
