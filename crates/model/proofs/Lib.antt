@@ -1,3 +1,4 @@
+pub mod Told
 pub mod Verdicts
 pub mod Leaving
 pub mod Pieces

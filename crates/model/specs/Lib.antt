@@ -1,5 +1,6 @@
 pub mod Names
 pub mod Rules
+pub mod Told
 pub mod Alternates
 pub mod Lent
 pub mod Pieces

@@ -1,6 +1,9 @@
 // How a command ends, by its cause.
 ghost use Rattle.std.specs.Prelude.{◌≡◌};
 ghost use Rattle.model.specs.Causes.{kind_of};
+ghost use Rattle.model.specs.Told.{told};
+
+use crate::cause::Cause;
 
 // Accepted, or refused: by the channel, or by the unit.
 #[derive(Clone, Copy)]
@@ -11,16 +14,15 @@ pub enum Kind {
 }
 
 impl Kind {
-    pub fn of(cause: u8) -> Kind
-        ensures { result ≡ kind_of cause }
+    pub fn of(outcome: Result<(), Cause>) -> Kind
+        ensures { result ≡ kind_of (told outcome) }
     {
-        match cause {
-            0 => Kind::Accepted,
-            10 => Kind::ProgramCheck,
-            11 => Kind::ProgramCheck,
-            12 => Kind::ProgramCheck,
-            13 => Kind::ProgramCheck,
-            _ => Kind::UnitCheck,
+        match outcome {
+            Ok(()) => Kind::Accepted,
+            Err(Cause::OtherFlags | Cause::NoCount | Cause::LeavesStorage | Cause::NoCommand) => {
+                Kind::ProgramCheck
+            }
+            Err(_) => Kind::UnitCheck,
         }
     }
 }

@@ -2,6 +2,7 @@
 #![tactic(auto)]
 
 pub mod answer;
+pub mod cause;
 pub mod ccw;
 pub mod command;
 pub mod decoded;
