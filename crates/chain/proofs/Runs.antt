@@ -34,6 +34,8 @@ use Rattle.model.specs.Lent.{flag, block_count}
 use Rattle.model.specs.Pieces.{Command, commands_from, commands_in, command_at, final, fetched}
 use Rattle.model.specs.Decoded.{pieces_from, command_of, Decodes}
 use Rattle.model.specs.Parameters.{locate_length}
+use Rattle.model.specs.Told.{told, outcome_in, outcome_of}
+use Rattle.model.proofs.Told.{outcome_told}
 use Rattle.model.specs.Causes.{call_causes, kind_by, kind_of}
 use Rattle.model.specs.Sense.{shown}
 use Rattle.model.specs.Commands.{Out, step}
@@ -122,10 +124,11 @@ module _ (dev : Device) (chain : List ℕ) where
   -- a command after which the chain goes on was accepted, and leaves the state that is carried
   on_left : (u : UnitRecord) (i : ℕ) (s : Running) (y : System) (l : Left) → more dev chain i y ≡ true → l ≡ left_at dev chain i s y
       → state_left u l ≡ state_of u l.state
-  unfolding more goes_on left_of
+  unfolding more goes_on left_of outcome_of outcome_in pick
   on_left u i s y l g f =
-      let accepted : l.cause ≡ 0 = ap (λ (x : Left). x.cause) f ∙ eqb-true _ _ (both_true _ _ (both_true _ _ g).0).0 in
-      rw accepted
+      let accepted : (step_at dev chain i y).done.cause ≡ 0 = eqb-true _ _ (both_true _ _ (both_true _ _ g).0).0 in
+      let outcome : told l.outcome ≡ 0 = ap (λ (x : Left). told x.outcome) f ∙ ap (λ (n : ℕ). told (outcome_of n)) accepted in
+      rw outcome
 
   module _ (u : Record) (main₀ store₀ map₀ answers₀ : List ℕ) (n : ℕ) (s₀ : Running) where
     abbrev lent : System
@@ -225,7 +228,8 @@ unfolding left_of pick state_of unit_of counted with_counts
 left_known u c s l o p =
     let state = go (o.done.cause =? 0) refl in
     let sense = p.sense ∙ ap (λ (w : ℕ). sense_showing w (shown w (fetched c o.main locate_length))) p.cause in
-    λ i. record { state = state i; sense = sense i; cause = p.cause i }
+    let outcome = sym (outcome_told l.outcome) ∙ ap outcome_of p.cause in
+    λ i. record { state = state i; sense = sense i; outcome = outcome i }
   where
     go : (b : Bool) → o.done.cause =? 0 ≡ b → l.state ≡ pick b (carried_of (s.kept && c.command =? NO_OPERATION) o.done.state) s
     go true e =
@@ -256,7 +260,7 @@ front_small {o = o} f =
     rw f.answer (omega (arith, status_byte k, channel_byte k false))
 
 module _ (dev : Device) (chain : List ℕ) (at i : ℕ) (c : Decoded) (u : Record) (s : Running) (main store map answers main' store' map' : List ℕ) (r : Ended) (reached : ℕ)
-    (told : Decodes chain c) (e : command_at chain i ≡ command_of chain c) (f : Ends (holding u map') (command_of chain c) s r main' store' (step dev (command_of chain c) (state_of (holding u map) s) main store)) where
+    (decodes : Decodes chain c) (e : command_at chain i ≡ command_of chain c) (f : Ends (holding u map') (command_of chain c) s r main' store' (step dev (command_of chain c) (state_of (holding u map) s) main store)) where
   abbrev found : System
   found = system_of (holding u map) s main store answers reached
 
@@ -272,24 +276,24 @@ module _ (dev : Device) (chain : List ℕ) (at i : ℕ) (c : Decoded) (u : Recor
       let answer : answers_given chain c.area r.answer r.moved r.wrong ≡ answers_of k o.done = given_answers chain c o.done _ _ _ f.answer f.moved f.wrong m small few in
       rw (e, h, g, answer, f.moved, f.left.state, f.main_same, f.store_same)
 
-  turned_go : (b : Bool) → b ≡ (r.left.cause =? 0 && not r.wrong && bit c.flags.0 chain_command) → b ≡ more dev chain i found
+  turned_go : (b : Bool) → b ≡ (told r.left.outcome =? 0 && not r.wrong && bit c.flags.0 chain_command) → b ≡ more dev chain i found
   unfolding more step_at goes_on channel_status flag
   turned_go b g =
       let k : Command = command_of chain c in
       let d : Done = (step dev k (state_of (holding u map) s) main store).done in
-      rw e (g ∙ rw (f.left.cause, f.wrong, told.flags) (sym (go_by_kind (d.cause =? 0) (one_of (10 ∷ 11 ∷ 12 ∷ 13 ∷ []) d.cause) (wrong_length k d.can) (flag (final k) chain_command))))
+      rw e (g ∙ rw (f.left.cause, f.wrong, decodes.flags) (sym (go_by_kind (d.cause =? 0) (one_of (10 ∷ 11 ∷ 12 ∷ 13 ∷ []) d.cause) (wrong_length k d.can) (flag (final k) chain_command))))
 
   turned_left : r.left ≡ left_at dev chain i s found
   unfolding step_at
   turned_left = rw e (left_known (holding u map') (command_of chain c) s r.left _ f.left)
 
   -- it goes on after a last piece with flag 40
-  turned_on : (b : Bool) → b ≡ (r.left.cause =? 0 && not r.wrong && bit c.flags.0 chain_command) → b ≡ true → bit c.flags.0 chain_command ≡ true
-  turned_on b g e = (both_true (r.left.cause =? 0 && not r.wrong) _ (sym g ∙ e)).1
+  turned_on : (b : Bool) → b ≡ (told r.left.outcome =? 0 && not r.wrong && bit c.flags.0 chain_command) → b ≡ true → bit c.flags.0 chain_command ≡ true
+  turned_on b g e = (both_true (told r.left.outcome =? 0 && not r.wrong) _ (sym g ∙ e)).1
 
   pub turned : (answers' : List ℕ) (given : ℕ) (b : Bool) → answers' ≡ put answers (reached * answer_size) (answers_given chain c.area r.answer r.moved r.wrong)
       → given ≡ reached + ((spread_over chain c.area r.moved).filled + 1) → (spread_over chain c.area r.moved).residual < 65536 → Usable dev → s.located.blocks < 65536
-      → b ≡ (r.left.cause =? 0 && not r.wrong && bit c.flags.0 chain_command) → Begins chain (i + 1) c.area.end → at < c.area.end
+      → b ≡ (told r.left.outcome =? 0 && not r.wrong && bit c.flags.0 chain_command) → Begins chain (i + 1) c.area.end → at < c.area.end
       → (bit c.flags.0 chain_command ≡ true → Closes chain c.area.end)
       → Turned dev chain (holding u map') s found at i (record { left = r.left; end = c.area.end; reached = given; go = b }) main' store' answers'
   turned answers' given b h g m d l k y z o = record {

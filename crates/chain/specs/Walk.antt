@@ -10,7 +10,7 @@
 --     Walks, Allowed          so is a run, and a call that no cause refuses
 --     called_with             what a call gives, with what was lent
 -- Assumes nothing.
-use Rattle.std.specs.Prelude.{ℕ, zero, suc, ◌+◌, ◌-◌, ◌*◌, ◌/◌, ◌≤◌, ◌<◌, ◌≡◌, Bool, true, ◌&&◌, List, length, drop}
+use Rattle.std.specs.Prelude.{ℕ, zero, suc, ◌+◌, ◌-◌, ◌*◌, ◌/◌, ◌≤◌, ◌<◌, ◌≡◌, Bool, true, ◌&&◌, List, length, drop, Ok}
 use Rattle.numbers.specs.Choice.{◌=?◌, pick}
 use Rattle.model.specs.declared.device.Device.{Device}
 use Rattle.model.specs.declared.record.Record.{Record}
@@ -22,6 +22,7 @@ use Rattle.model.specs.Pieces.{Command, commands_from, commands_in, command_at, 
 use Rattle.model.specs.Answer.{answer_size}
 use Rattle.model.specs.Parameters.{locate_length}
 use Rattle.model.specs.Sense.{shown}
+use Rattle.model.specs.Told.{outcome_of}
 use Rattle.model.specs.Commands.{Out}
 use Rattle.model.specs.Chain.{System, system, step_at, next, more, run, start, Called, called, call_of}
 use Rattle.model.specs.Safe.{Closes}
@@ -49,7 +50,7 @@ unfoldable pub left_of : Command → Running → Out → Left
 left_of c s o = record {
   state = pick (o.done.cause =? 0) (carried_of (s.kept && c.command =? NO_OPERATION) o.done.state) s;
   sense = sense_showing o.done.cause (shown o.done.cause (fetched c o.main locate_length));
-  cause = o.done.cause;
+  outcome = outcome_of o.done.cause;
 }
 
 module _ (dev : Device) (chain : List ℕ) where
@@ -57,7 +58,7 @@ module _ (dev : Device) (chain : List ℕ) where
   left_at i s y = left_of (command_at chain i) s (step_at dev chain i y)
 
   unfoldable pub left_from : ℕ → ℕ → Running → System → Left
-  left_from zero i s y = record { state = s; sense = no_sense; cause = 0 }
+  left_from zero i s y = record { state = s; sense = no_sense; outcome = Ok tt }
   left_from (suc n) i s y = pick (more dev chain i y) (left_from n (i + 1) (left_at i s y).state (next dev chain i y)) (left_at i s y)
 
   abbrev pub run_of : System → System

@@ -4,11 +4,13 @@ ghost use Rattle.numbers.specs.Bits.{bit};
 ghost use Rattle.numbers.specs.Choice.{◌=?◌};
 ghost use Rattle.model.specs.Names.{chain_command};
 ghost use Rattle.model.specs.Safe.{Closes};
+ghost use Rattle.model.specs.Told.{told};
 ghost use Rattle.unit_state.specs.Standing.{holding, Sound};
 ghost use Rattle.chain.specs.Walk.{system_of, Begins, InRun, Turned, Walks};
 
 use answers::put_answers;
 use channel::ccw::command_at;
+use model::cause::Cause;
 use model::ccw::Flags;
 use model::device::Device;
 use model::record::Record;
@@ -16,16 +18,10 @@ use unit::step;
 use unit_state::{Left, Running};
 
 // "A refusal ends the chain", a wrong length ends it, and so does a last piece without flag 40.
-fn goes_on(last: Flags, cause: u8, wrong: bool) -> bool
-    ensures { result ≡ (cause =? 0 && not wrong && bit last.0 chain_command) }
+fn goes_on(last: Flags, outcome: Result<(), Cause>, wrong: bool) -> bool
+    ensures { result ≡ (told outcome =? 0 && not wrong && bit last.0 chain_command) }
 {
-    if cause != 0 {
-        return false;
-    }
-    if wrong {
-        return false;
-    }
-    last.chained()
+    outcome.is_ok() && !wrong && last.chained()
 }
 
 // How one turn leaves the unit, the CCW behind its command, how many answers there are, and whether the chain goes on.
@@ -62,7 +58,7 @@ fn one_turn(
         left: l,
         end: c.area.end,
         reached: given,
-        go: goes_on(c.flags, l.cause, e.wrong),
+        go: goes_on(c.flags, l.outcome, e.wrong),
     }
 }
 

@@ -1,11 +1,13 @@
-// The channel's own tests of a command, causes 13 and 10 to 12: the way in is `channel_cause`, which is 0 where the unit sees the command.
+// The channel's own tests of a command, causes 13 and 10 to 12: the way in is `channel_cause`, which is Ok where the unit sees the command.
 ghost use Rattle.std.specs.Prelude.{◌≡◌};
 ghost use Rattle.model.specs.Rules.{first_of};
 ghost use Rattle.model.specs.Causes.{no_command, leaves_storage, piece_causes, tested_of, channel_causes};
 ghost use Rattle.model.specs.Decoded.{Stands, Decodes, later_of, command_of};
 ghost use Rattle.model.specs.Safe.{PieceFits};
+ghost use Rattle.model.specs.Told.{told};
 
 use crate::ccw::next_piece;
+use model::cause::Cause;
 use model::ccw::Piece;
 use model::command;
 use model::decoded::{Area, Decoded};
@@ -29,48 +31,45 @@ fn leaves_storage(command: u8, p: Piece, held: usize) -> bool
 }
 
 // In their order, of one piece.
-fn piece_cause(command: u8, p: Piece, held: usize) -> u8
+fn piece_cause(command: u8, p: Piece, held: usize) -> Result<(), Cause>
     requires { PieceFits p }
-    ensures { result ≡ first_of (piece_causes command held p) }
+    ensures { told result ≡ first_of (piece_causes command held p) }
 {
     let flags = p.flags;
     if flags.others() {
-        return 10;
+        return Err(Cause::OtherFlags);
     }
     if p.count == 0 {
-        return 11;
+        return Err(Cause::NoCount);
     }
     if leaves_storage(command, p, held) {
-        return 12;
+        return Err(Cause::LeavesStorage);
     }
-    0
+    Ok(())
 }
 
 // Piece by piece, up to the first that is refused.
-fn pieces_cause(chain: &[u8], command: u8, a: Area, held: usize) -> u8
+fn pieces_cause(chain: &[u8], command: u8, a: Area, held: usize) -> Result<(), Cause>
     requires { Stands chain.now a × PieceFits a.piece }
-    ensures { result ≡ first_of (piece_causes command held (tested_of command held a.piece (later_of chain.now a))) }
+    ensures { told result ≡ first_of (piece_causes command held (tested_of command held a.piece (later_of chain.now a))) }
 {
     let mut area = a;
     loop {
-        let cause = piece_cause(command, area.piece, held);
-        if cause != 0 {
-            return cause;
-        }
+        piece_cause(command, area.piece, held)?;
         if area.end <= area.next {
-            return 0;
+            return Ok(());
         }
         area = next_piece(chain, area);
     }
 }
 
 // The command's own byte, then its pieces.
-pub fn channel_cause(chain: &[u8], c: Decoded, main: &[u8]) -> u8
+pub fn channel_cause(chain: &[u8], c: Decoded, main: &[u8]) -> Result<(), Cause>
     requires { Decodes chain.now c }
-    ensures { result ≡ first_of (channel_causes (command_of chain.now c) main.now) }
+    ensures { told result ≡ first_of (channel_causes (command_of chain.now c) main.now) }
 {
     if no_command(c.command) {
-        return 13;
+        return Err(Cause::NoCommand);
     }
     pieces_cause(chain, c.command, c.area, main.len())
 }

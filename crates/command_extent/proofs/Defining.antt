@@ -31,6 +31,7 @@ use Rattle.unit_state.specs.Standing.{with_extent, state_of, Handed}
 use Rattle.unit_state.proofs.Units.{with_extent_lem, same_counts}
 use Rattle.endings.specs.declared.Ended.{Ended}
 use Rattle.endings.specs.Ending.{Ends}
+use Rattle.model.proofs.Told.{extent_named}
 use Rattle.endings.proofs.Ends.{decided_by}
 use Rattle.command_extent.specs.Answers.{defined_by}
 
@@ -53,6 +54,7 @@ module _ (u : UnitRecord) (dev : Device) (chain : List ℕ) (c : Decoded) (s : R
       let verdict : first_of (define_extent_causes dev (block_count dev store) it (state_of u s) (fetched it main extent_length)) ≡ first_of (extent_causes dev (block_count dev store) (fetched it main extent_length))
       = first_later _ _ (le-ltb _ _ long) ∙ first_later _ _ n in
       decided_by u u chain c h.told s main store _ _ _ (with_extent s s.counts (extent_in (fetched it main extent_length)) Other) extent_length (zeros locate_length) r
+      (extent_named dev (block_count dev store) (fetched it main extent_length))
       ((performed_as dev it (state_of u s) main store).define_extent_lem k ∙ ap (λ (v : ℕ). decided it (state_of u s) main store v (define_extent it (cleared (state_of u s)) main store)) verdict)
       (e ∙ rw (b, bytes) refl)
       (extent_reads dev (block_count dev store) (fetched it main extent_length))

@@ -1,5 +1,4 @@
-// DEFINE EXTENT: its sixteen bytes taken apart, and taken or refused (`define_parameters`; a refusal is a case of its answer, with
-// 01's number); and the command, `define_extent`. It changes no storage.
+// DEFINE EXTENT: its sixteen bytes taken apart, and taken or refused (`define_parameters`); and the command, `define_extent`. It changes no storage.
 #![tactic(auto)]
 
 ghost use Rattle.std.specs.Prelude.{◌≡◌, ◌≤◌, length};
@@ -11,12 +10,14 @@ ghost use Rattle.model.specs.Lent.{block_count};
 ghost use Rattle.model.specs.Safe.{Usable};
 ghost use Rattle.model.specs.Names.{DEFINE_EXTENT};
 ghost use Rattle.model.specs.Parameters.{extent_length, extent_in};
+ghost use Rattle.model.specs.Told.{told};
 ghost use Rattle.unit_state.specs.Standing.{Handed};
 ghost use Rattle.endings.specs.Ending.{Performs};
-ghost use Rattle.command_extent.specs.Answers.{defined_number, defined_by};
+ghost use Rattle.command_extent.specs.Answers.{defined_by};
 
 use blocks::block_count;
 use endings::{Ended, accept, refuse, refuse_parameters};
+use model::cause::Cause;
 use model::decoded::Decoded;
 use model::device::Device;
 use model::extent::{Displacement, Extent, Offset};
@@ -24,31 +25,6 @@ use model::sizes;
 use model::state::Before;
 use storage::fetch;
 use unit_state::{Running, extent_set};
-
-#[derive(Clone, Copy)]
-pub enum Defined {
-    Taken,
-    BadMask,
-    Maintenance,
-    BadSize,
-    FirstAfterLast,
-    PastDevice,
-}
-
-impl Defined {
-    fn number(self) -> u8
-        ensures { result ≡ defined_number self }
-    {
-        match self {
-            Defined::Taken => 0,
-            Defined::BadMask => 22,
-            Defined::Maintenance => 23,
-            Defined::BadSize => 24,
-            Defined::FirstAfterLast => 25,
-            Defined::PastDevice => 26,
-        }
-    }
-}
 
 // Mask bits 0-1 are 10, or one of bits 2, 3, 6, 7 is one, or byte 1 is not zero.
 fn mask_wrong(mask: u8, reserved: u8) -> bool
@@ -104,26 +80,26 @@ fn past_device(e: Extent, blocks: usize) -> bool
 }
 
 // The sixteen bytes, which say extent e, on this device, of so many blocks.
-fn define_parameters(d: Device, blocks: usize, e: Extent, p: &[u8]) -> Defined
+fn define_parameters(d: Device, blocks: usize, e: Extent, p: &[u8]) -> Result<(), Cause>
     requires { (length p.now ≡ extent_length) × (e ≡ extent_in p.now) }
-    ensures { defined_number result ≡ first_of (extent_causes d blocks p.now) }
+    ensures { told result ≡ first_of (extent_causes d blocks p.now) }
 {
     if mask_wrong(p[0], p[1]) {
-        return Defined::BadMask;
+        return Err(Cause::BadMask);
     }
     if maintenance(p[0]) {
-        return Defined::Maintenance;
+        return Err(Cause::Maintenance);
     }
     if size_wrong(d, numbers::be2(p, 2)) {
-        return Defined::BadSize;
+        return Err(Cause::OtherSize);
     }
     if e.last.0 < e.first.0 {
-        return Defined::FirstAfterLast;
+        return Err(Cause::FirstAfterLast);
     }
     if past_device(e, blocks) {
-        return Defined::PastDevice;
+        return Err(Cause::PastDevice);
     }
-    Defined::Taken
+    Ok(())
 }
 
 // The command by its sixteen bytes.
@@ -132,13 +108,13 @@ fn define_by(d: Device, blocks: usize, c: Decoded, s: Running, p: &[u8]) -> Ende
     ensures { result ≡ defined_by d blocks c s p.now }
 {
     let e = extent_in(p);
-    let answer = define_parameters(d, blocks, e, p);
-    let cause = answer.number();
-    if cause != 0 {
-        return refuse_parameters(c, s, cause, sizes::EXTENT, [0u8; sizes::LOCATE]);
+    match define_parameters(d, blocks, e, p) {
+        Ok(()) => {
+            let t = extent_set(s, s.counts, e, Before::Other);
+            accept(c, t, sizes::EXTENT, sizes::EXTENT, 0)
+        }
+        Err(cause) => refuse_parameters(c, s, cause, sizes::EXTENT, [0u8; sizes::LOCATE]),
     }
-    let t = extent_set(s, s.counts, e, Before::Other);
-    accept(c, t, sizes::EXTENT, sizes::EXTENT, 0)
 }
 
 pub fn define_extent(
@@ -153,10 +129,10 @@ pub fn define_extent(
     ensures { (u : UnitRecord) → Performs d chain.now c s result u main.now store.now u main.now store.now }
 {
     if c.count < sizes::EXTENT {
-        return refuse(c, s, 20);
+        return refuse(c, s, Cause::ShortExtent);
     }
     if s.defined {
-        return refuse(c, s, 21);
+        return refuse(c, s, Cause::SecondExtent);
     }
     let mut p = [0u8; sizes::EXTENT];
     fetch(chain, c.area, main, &mut p, sizes::EXTENT);

@@ -32,6 +32,7 @@ use Rattle.unit_state.specs.Standing.{holding, with_locate, state_of, Handed}
 use Rattle.unit_state.proofs.Units.{with_locate_lem, same_counts}
 use Rattle.endings.specs.declared.Ended.{Ended}
 use Rattle.endings.specs.Ending.{Ends}
+use Rattle.model.proofs.Told.{location_named}
 use Rattle.endings.proofs.Ends.{decided_by}
 use Rattle.command_locate.specs.Answers.{located_by, map_left}
 
@@ -59,7 +60,7 @@ module _ (u : Record) (map : List ℕ) (dev : Device) (chain : List ℕ) (c : De
       let cause : ℕ = first_of (location_causes dev (state_of found s) (fetched it main locate_length)) in
       let verdict : first_of (locate_causes dev it (state_of found s) (fetched it main locate_length)) ≡ cause = first_later _ _ n ∙ first_later _ _ (le-ltb _ _ long) in
       let left : map' ≡ pick (cause =? 0) (map_after dev map s.extent (located_in (fetched it main locate_length))) map = rw bytes at g in
-      decided_by found (holding u map') chain c h.told s main store _ cause _ (with_locate s (with_movement s.counts) (located_in (fetched it main locate_length))) locate_length (shown _ (fetched it main locate_length)) r
+      decided_by found (holding u map') chain c h.told s main store _ cause _ (with_locate s (with_movement s.counts) (located_in (fetched it main locate_length))) locate_length (shown _ (fetched it main locate_length)) r (location_named dev (state_of found s) (fetched it main locate_length))
       ((performed_as dev it (state_of found s) main store).locate k ∙ ap (λ (v : ℕ). decided it (state_of found s) main store v (locate dev it (cleared (state_of found s)) main store)) verdict)
       (rw bytes at e) (location_reads dev (state_of found s) (fetched it main locate_length)) (λ _. refl) (λ z. ap (holding u) (left ∙ pick_false _ _ _ z)) (rw k (sym (and-false s.kept)))
       (λ z. rw (left ∙ pick_true _ _ _ z) (located_out (fetched it main locate_length)))

@@ -1,5 +1,4 @@
 -- What the code answers to the parameters of a LOCATE.
---     location_number   the numbers of the answers: 01's causes, and 0 where the parameters are taken
 --     located_by        the command by its eight bytes: refused, or accepted with what they locate
 --     map_left          the map that it leaves: if it is refused, the one that it found
 -- Assumes nothing.
@@ -9,6 +8,7 @@ use Rattle.model.specs.declared.decoded.Decoded.{Decoded}
 use Rattle.model.specs.declared.device.Device.{Device}
 use Rattle.model.specs.declared.record.UnitRecord.{UnitRecord}
 use Rattle.model.specs.Rules.{first_of}
+use Rattle.model.specs.Told.{outcome_of}
 use Rattle.model.specs.Parameters.{locate_length, located_in}
 use Rattle.model.specs.Causes.{location_causes}
 use Rattle.model.specs.Commands.{map_after}
@@ -18,24 +18,11 @@ use Rattle.unit_state.specs.declared.Running.{Running}
 use Rattle.unit_state.specs.Standing.{with_locate, state_of}
 use Rattle.endings.specs.declared.Ended.{Ended}
 use Rattle.endings.specs.Ending.{accepted_end, parameters_refused}
-use Rattle.command_locate.specs.declared.Location.{Location}
-use Rattle.command_locate.specs.declared.Location.TheVariants.{Found, BadModifier, BadOperation, BadCount, BadReplication, OutsideExtent, Forbidden, ReadOnly, NoAlternate}
-
-abbrev pub location_number : Location → ℕ
-location_number Found = 0
-location_number BadModifier = 32
-location_number BadOperation = 33
-location_number BadCount = 34
-location_number BadReplication = 35
-location_number OutsideExtent = 36
-location_number Forbidden = 37
-location_number ReadOnly = 38
-location_number NoAlternate = 39
 
 unfoldable pub located_by : Device → UnitRecord → Decoded → Running → List ℕ → Ended
 located_by dev u c s p =
     let cause = first_of (location_causes dev (state_of u s) p) in
-    pick (cause =? 0) (accepted_end c (with_locate s (with_movement s.counts) (located_in p)) locate_length locate_length 0) (parameters_refused c s cause locate_length (shown cause p))
+    pick (cause =? 0) (accepted_end c (with_locate s (with_movement s.counts) (located_in p)) locate_length locate_length 0) (parameters_refused c s (outcome_of cause) locate_length (shown cause p))
 
 unfoldable pub map_left : Device → UnitRecord → Running → List ℕ → List ℕ
 map_left dev u s p =

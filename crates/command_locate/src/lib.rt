@@ -1,5 +1,4 @@
-// LOCATE: its eight bytes taken apart, and taken or refused (`locate_parameters`; a refusal is a case of its answer, with 01's
-// number); and the command, `locate`. It changes no storage and, but for a format, no map.
+// LOCATE: its eight bytes taken apart, and taken or refused (`locate_parameters`); and the command, `locate`. It changes no storage and, but for a format, no map.
 #![tactic(auto)]
 
 ghost use Rattle.std.specs.Prelude.{◌≡◌, true, List, ℕ, ◌<◌, length};
@@ -14,11 +13,13 @@ ghost use Rattle.model.specs.Safe.{HasMap, OnDevice, InExtent};
 ghost use Rattle.model.specs.Sense.{shown};
 ghost use Rattle.unit_state.specs.Standing.{holding, state_of, Handed};
 ghost use Rattle.endings.specs.Ending.{Performs};
-ghost use Rattle.command_locate.specs.Answers.{location_number, located_by, map_left};
+ghost use Rattle.model.specs.Told.{cause_number, told};
+ghost use Rattle.command_locate.specs.Answers.{located_by, map_left};
 
 use alternates::{format_block, unused};
 use buffered_log::movement_counted;
 use endings::{Ended, accept, refuse, refuse_parameters};
+use model::cause::Cause;
 use model::decoded::Decoded;
 use model::device::Device;
 use model::extent::{Displacement, Extent, Located};
@@ -26,37 +27,6 @@ use model::record::Record;
 use model::{operation, sizes};
 use storage::fetch;
 use unit_state::{Running, locate_set};
-
-#[derive(Clone, Copy)]
-pub enum Location {
-    Found,
-    BadModifier,
-    BadOperation,
-    BadCount,
-    BadReplication,
-    OutsideExtent,
-    Forbidden,
-    ReadOnly,
-    NoAlternate,
-}
-
-impl Location {
-    fn number(self) -> u8
-        ensures { result ≡ location_number self }
-    {
-        match self {
-            Location::Found => 0,
-            Location::BadModifier => 32,
-            Location::BadOperation => 33,
-            Location::BadCount => 34,
-            Location::BadReplication => 35,
-            Location::OutsideExtent => 36,
-            Location::Forbidden => 37,
-            Location::ReadOnly => 38,
-            Location::NoAlternate => 39,
-        }
-    }
-}
 
 // One of modifier bits 0 to 2 is one. Bit 3 is not used.
 fn modifier_wrong(byte: u8) -> bool
@@ -188,56 +158,56 @@ fn none_to_take(d: Device, map: &[u8], code: u32) -> bool
 }
 
 // What is asked for is within the extent, and the mask, the switch and the alternates allow it.
-fn permit(d: Device, u: Record, s: Running, map: &[u8], l: Located, n: usize) -> Location
+fn permit(d: Device, u: Record, s: Running, map: &[u8], l: Located, n: usize) -> Result<(), Cause>
     requires { (l.operation < 7) × (n < 65536) × HasMap d map.now }
-    ensures { location_number result ≡ first_of (permission_causes d (state_of (holding u map.now) s) l n) }
+    ensures { told result ≡ first_of (permission_causes d (state_of (holding u map.now) s) l n) }
 {
     let e = s.extent;
     if outside_extent(e, l.displacement, n) {
-        return Location::OutsideExtent;
+        return Err(Cause::OutsideExtent);
     }
     if mask_forbids(e.mask, l.operation) {
-        return Location::Forbidden;
+        return Err(Cause::Forbidden);
     }
     if write_inhibited(u.read_only, l.operation) {
-        return Location::ReadOnly;
+        return Err(Cause::ReadOnly);
     }
     if none_to_take(d, map, l.operation) {
-        return Location::NoAlternate;
+        return Err(Cause::NoAlternate);
     }
-    Location::Found
+    Ok(())
 }
 
 // The eight bytes, under the extent and on the unit of this state, with this map.
-fn locate_parameters(d: Device, u: Record, s: Running, map: &[u8], p: &[u8]) -> Location
+fn locate_parameters(d: Device, u: Record, s: Running, map: &[u8], p: &[u8]) -> Result<(), Cause>
     requires { (length p.now ≡ locate_length) × HasMap d map.now }
-    ensures { location_number result ≡ first_of (location_causes d (state_of (holding u map.now) s) p.now) }
+    ensures { told result ≡ first_of (location_causes d (state_of (holding u map.now) s) p.now) }
 {
     let l = located_in(p);
     let replication = numbers::wide(p[1]);
     if modifier_wrong(p[0]) {
-        return Location::BadModifier;
+        return Err(Cause::BadModifier);
     }
     if !is_operation(l.operation) {
-        return Location::BadOperation;
+        return Err(Cause::BadOperation);
     }
     if count_wrong(l) {
-        return Location::BadCount;
+        return Err(Cause::BadCount);
     }
     if replication_wrong(l, replication) {
-        return Location::BadReplication;
+        return Err(Cause::BadReplication);
     }
     let n = blocks_processed(l, replication);
     permit(d, u, s, map, l, n)
 }
 
 // The parameters that a cause shows: the LOCATE's eight bytes with 39, else zeros.
-fn shown_by(cause: u8, p: &[u8]) -> [u8; sizes::LOCATE]
+fn shown_by(cause: Cause, p: &[u8]) -> [u8; sizes::LOCATE]
     requires { length p.now ≡ locate_length }
-    ensures { result ≡ shown cause p.now }
+    ensures { result ≡ shown (cause_number cause) p.now }
 {
     let mut shown = [0u8; sizes::LOCATE];
-    if cause == 39 {
+    if let Cause::NoAlternate = cause {
         slices::copy(p, &mut shown, sizes::LOCATE);
     }
     shown
@@ -261,9 +231,7 @@ fn locate_by(d: Device, u: Record, c: Decoded, s: Running, map: &mut [u8], p: &[
     ensures ended { result ≡ located_by d (holding u map.old) c s p.now }
     ensures left { map.new ≡ map_left d (holding u map.old) s p.now }
 {
-    let answer = locate_parameters(d, u, s, map, p);
-    let cause = answer.number();
-    if cause != 0 {
+    if let Err(cause) = locate_parameters(d, u, s, map, p) {
         return refuse_parameters(c, s, cause, sizes::LOCATE, shown_by(cause, p));
     }
     let l = located_in(p);
@@ -286,10 +254,10 @@ pub fn locate(
     ensures { (store : List ℕ) → Performs d chain.now c s result (holding u map.old) main.now store (holding u map.new) main.now store }
 {
     if !s.defined {
-        return refuse(c, s, 30);
+        return refuse(c, s, Cause::NoExtent);
     }
     if c.count < sizes::LOCATE {
-        return refuse(c, s, 31);
+        return refuse(c, s, Cause::ShortLocate);
     }
     let mut p = [0u8; sizes::LOCATE];
     fetch(chain, c.area, main, &mut p, sizes::LOCATE);

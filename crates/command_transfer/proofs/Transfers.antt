@@ -47,6 +47,10 @@ use Rattle.unit_state.specs.Standing.{holding, went_on, with_extent, state_of, S
 use Rattle.unit_state.proofs.Units.{empty, went_on_lem, with_extent_lem, same_counts}
 use Rattle.endings.specs.declared.Ended.{Ended}
 use Rattle.endings.specs.Ending.{refused_end, Performs}
+use Rattle.std.specs.Prelude.{Err}
+use Rattle.model.specs.declared.cause.Cause.{Cause}
+use Rattle.model.specs.Told.{cause_number}
+use Rattle.model.proofs.Told.{refused_told}
 use Rattle.endings.proofs.Ends.{refused_by, accepted_by}
 use Rattle.command_transfer.specs.declared.Move.{Move}
 use Rattle.command_transfer.specs.Transferred.{Placed, move_of, read_end, written_by, write_end, ipl_end}
@@ -94,10 +98,11 @@ module _ {follows : ℕ → Bool} {dev : Device} {chain : List ℕ} {c : Decoded
   unfolding transfer_causes state_of
   given u = rw (← located) (sym found)
 
-  pub transfer_refused : {u : UnitRecord} {r : Ended} → (w ≡ 0 → ⊥) → r ≡ refused_end c s w → Performs dev chain c s r u main store u main store
+  pub transfer_refused : {u : UnitRecord} {r : Ended} {cause : Cause} → w ≡ cause_number cause → r ≡ refused_end c s (Err cause) → Performs dev chain c s r u main store u main store
   unfolding transfer_causes bytes_read one_of pick
-  transfer_refused {u} {r} n e =
-      refused_by u chain c t.handed.told s main store _ _ _ w r (t.is (state_of u s)) e (given u) (ne_eqb _ _ n) (rw (given u) at (table_reads 0 (transfer_causes follows (state_of u s)) refl (rw (given u) (ne_eqb _ _ n))))
+  transfer_refused {u} {r} {cause} n e =
+      let verdict : first_of (transfer_causes follows (state_of u s)) ≡ cause_number cause = given u ∙ n in
+      refused_by u chain c t.handed.told s main store _ _ _ cause r (t.is (state_of u s)) e verdict (rw verdict at (table_reads 0 (transfer_causes follows (state_of u s)) refl (rw verdict (refused_told cause))))
 
   pub passed : w ≡ 0 → Passed follows dev chain c s main store map
   unfolding transfer_causes state_of

@@ -8,6 +8,7 @@ ghost use Rattle.model.specs.Rules.{first_of};
 ghost use Rattle.model.specs.Causes.{a_locate, none_or_ipl, transfer_rules};
 ghost use Rattle.model.specs.Commands.{begun, whole_device};
 ghost use Rattle.model.specs.Safe.{Usable};
+ghost use Rattle.model.specs.Told.{told};
 ghost use Rattle.unit_state.specs.Standing.{holding, Sound, Handed};
 ghost use Rattle.endings.specs.Ending.{Performs};
 ghost use Rattle.command_transfer.specs.Transferred.{Placed, move_of, read_end, written_by, write_end, ipl_end};
@@ -15,6 +16,7 @@ ghost use Rattle.command_transfer.specs.Transferred.{Placed, move_of, read_end, 
 use blocks::{begun, block_count, read_blocks, read_mapped, store_blocks};
 use buffered_log::{movement_counted, read_counted, written_counted};
 use endings::{Ended, accept, refuse};
+use model::cause::Cause;
 use model::decoded::Decoded;
 use model::device::Device;
 use model::extent::{Displacement, Extent, Offset};
@@ -48,18 +50,18 @@ fn none_or_ipl(before: Before) -> bool
     }
 }
 
-// The cause that refuses a READ or a WRITE, or 0. `follows`: it may follow the operation that was located.
-fn transfer_cause(s: Running, follows: bool) -> u8
-    ensures { result ≡ first_of (transfer_rules s.before follows) }
+// Whether a READ or a WRITE may stand here. `follows`: it may follow the operation that was located.
+fn transfer_cause(s: Running, follows: bool) -> Result<(), Cause>
+    ensures { told result ≡ first_of (transfer_rules s.before follows) }
 {
     let before = s.before;
     if !after_locate(before) {
-        return 41;
+        return Err(Cause::NoLocate);
     }
     if !follows {
-        return 42;
+        return Err(Cause::OtherOperation);
     }
-    0
+    Ok(())
 }
 
 // What a transfer moves: from which block, how many bytes it can, and how many it does.
@@ -107,8 +109,7 @@ pub fn read(
     ensures { (u : Record) → Performs d chain.now c s result (holding u map.now) main.old store.now (holding u map.now) main.new store.now }
 {
     let l = s.located;
-    let cause = transfer_cause(s, operation::reads(l.operation));
-    if cause != 0 {
+    if let Err(cause) = transfer_cause(s, operation::reads(l.operation)) {
         return refuse(c, s, cause);
     }
     let m = located_move(d, c, s);
@@ -151,8 +152,7 @@ pub fn write(
     ensures { (u : Record) → Performs d chain.now c s result (holding u map.now) main.now store.old (holding u map.now) main.now store.new }
 {
     let l = s.located;
-    let cause = transfer_cause(s, operation::writes(l.operation));
-    if cause != 0 {
+    if let Err(cause) = transfer_cause(s, operation::writes(l.operation)) {
         return refuse(c, s, cause);
     }
     let m = located_move(d, c, s);
@@ -197,7 +197,7 @@ pub fn read_ipl(
 {
     let before = s.before;
     if !none_or_ipl(before) {
-        return refuse(c, s, 40);
+        return refuse(c, s, Cause::IplNotFirst);
     }
     let n = least(c.count, d.block);
     read_mapped(d, store, map, 0, 1, chain, c.area, main, n);

@@ -8,7 +8,7 @@
 --     Ends                        so is all that a command gives
 --     Performs                    so it is of a command that the channel and the unit passed on: the promise of every command
 -- Assumes nothing.
-use Rattle.std.specs.Prelude.{ℕ, ◌+◌, ◌*◌, ◌≡◌, Bool, true, false, not, ◌&&◌, List, ◌++◌, set}
+use Rattle.std.specs.Prelude.{ℕ, ◌+◌, ◌*◌, ◌≡◌, Bool, true, false, not, ◌&&◌, List, ◌++◌, set, Result, Ok, ⊤}
 use Rattle.numbers.specs.Choice.{◌=?◌}
 use Rattle.numbers.specs.Big.{bytes4}
 use Rattle.slices.specs.Parts.{zeros}
@@ -20,7 +20,9 @@ use Rattle.model.specs.declared.record.UnitRecord.{UnitRecord}
 use Rattle.model.specs.Names.{NO_OPERATION, suppress_length, INCORRECT_LENGTH, channel_status_at}
 use Rattle.model.specs.Pieces.{Command, fetched}
 use Rattle.model.specs.Parameters.{locate_length}
+use Rattle.model.specs.declared.cause.Cause.{Cause}
 use Rattle.model.specs.Causes.{kind_of}
+use Rattle.model.specs.Told.{told}
 use Rattle.model.specs.Sense.{shown}
 use Rattle.model.specs.declared.device.Device.{Device}
 use Rattle.model.specs.Decoded.{command_of}
@@ -57,31 +59,31 @@ wrong_by Accepted wrong = wrong
 wrong_by ProgramCheck wrong = false
 wrong_by UnitCheck wrong = false
 
-abbrev pub end_of : Decoded → Running → ℕ → ℕ → ℕ → ℕ → Sense → Ended
-end_of c s moved can blocks cause sense = record {
-  left = record { state = s; sense = sense; cause = cause };
-  answer = answer_words (kind_of cause) cause blocks;
+abbrev pub end_of : Decoded → Running → ℕ → ℕ → ℕ → Result ⊤ Cause → Sense → Ended
+end_of c s moved can blocks outcome sense = record {
+  left = record { state = s; sense = sense; outcome = outcome };
+  answer = answer_words (kind_of (told outcome)) (told outcome) blocks;
   moved = moved;
-  wrong = wrong_by (kind_of cause) (wrong_told c can);
+  wrong = wrong_by (kind_of (told outcome)) (wrong_told c can);
 }
 
 abbrev pub accepted_end : Decoded → Running → ℕ → ℕ → ℕ → Ended
-accepted_end c s moved can blocks = end_of c s moved can blocks 0 no_sense
+accepted_end c s moved can blocks = end_of c s moved can blocks (Ok tt) no_sense
 
 -- the parameters are those that its cause shows
-abbrev pub parameters_refused : Decoded → Running → ℕ → ℕ → List ℕ → Ended
-parameters_refused c s cause read parameters = end_of c s read 0 0 cause (sense_showing cause parameters)
+abbrev pub parameters_refused : Decoded → Running → Result ⊤ Cause → ℕ → List ℕ → Ended
+parameters_refused c s outcome read parameters = end_of c s read 0 0 outcome (sense_showing (told outcome) parameters)
 
-abbrev pub refused_end : Decoded → Running → ℕ → Ended
-refused_end c s cause = parameters_refused c s cause 0 (zeros locate_length)
+abbrev pub refused_end : Decoded → Running → Result ⊤ Cause → Ended
+refused_end c s outcome = parameters_refused c s outcome 0 (zeros locate_length)
 
 -- in a chain that found record u, which has the map that is left, of a command that found state s
 pub record Leaves (u : UnitRecord) (c : Command) (s : Running) (l : Left) (o : Out) : Type 0 where
   pub state : state_left u l ≡ o.done.state
-  pub cause : l.cause ≡ o.done.cause
-  pub kept : l.cause ≡ 0 → l.state.kept ≡ (s.kept && c.command =? NO_OPERATION)
-  pub refused : (l.cause ≡ 0 → ⊥) → l.state ≡ s
-  pub sense : l.sense ≡ sense_showing l.cause (shown l.cause (fetched c o.main locate_length))
+  pub cause : told l.outcome ≡ o.done.cause
+  pub kept : told l.outcome ≡ 0 → l.state.kept ≡ (s.kept && c.command =? NO_OPERATION)
+  pub refused : (told l.outcome ≡ 0 → ⊥) → l.state ≡ s
+  pub sense : l.sense ≡ sense_showing (told l.outcome) (shown (told l.outcome) (fetched c o.main locate_length))
 
 pub record Ends (u : UnitRecord) (c : Command) (s : Running) (r : Ended) (main store : List ℕ) (o : Out) : Type 0 where
   pub left : Leaves u c s r.left o

@@ -2,9 +2,11 @@
 // two ways to it that most commands take.
 #![tactic(auto)]
 
-ghost use Rattle.std.specs.Prelude.{◌≡◌, ◌<◌};
+ghost use Rattle.std.specs.Prelude.{◌≡◌, ◌<◌, Err};
+ghost use Rattle.model.specs.Told.{told};
 ghost use Rattle.endings.specs.Ending.{answer_words, wrong_told, wrong_by, end_of, accepted_end, parameters_refused, refused_end};
 
+use model::cause::{Cause, byte_of};
 use model::decoded::Decoded;
 use model::kind::Kind;
 use model::status::{ChannelStatus, UnitStatus};
@@ -29,16 +31,16 @@ pub struct Ended {
     pub wrong: bool,
 }
 
-fn answer_of(kind: Kind, cause: u8, blocks: usize) -> Answer
+fn answer_of(kind: Kind, outcome: Result<(), Cause>, blocks: usize) -> Answer
     requires { blocks < 65536 }
-    ensures { result ≡ answer_words kind cause blocks }
+    ensures { result ≡ answer_words kind (told outcome) blocks }
 {
     let unit = UnitStatus::of(kind);
     let channel = ChannelStatus::of(kind);
     let statuses = (unit.0 as usize) * 256 + (channel.0 as usize);
     Answer {
         front: statuses * 65536,
-        back: (cause as usize) * 16777216 + blocks,
+        back: usize::from(byte_of(outcome)) * 16777216 + blocks,
     }
 }
 
@@ -66,7 +68,7 @@ fn wrong_by(kind: Kind, c: Decoded, can: usize) -> bool
     }
 }
 
-// A command that moved so many bytes of those that it could, and so many blocks, with a cause, or 0. The state is the one that is
+// A command that moved so many bytes of those that it could, and so many blocks. The state is the one that is
 // left, or, of a refused command, the one that it found; the sense is that of its cause.
 fn end(
     c: Decoded,
@@ -74,21 +76,21 @@ fn end(
     moved: usize,
     can: usize,
     blocks: usize,
-    cause: u8,
+    outcome: Result<(), Cause>,
     sense: Sense,
 ) -> Ended
     requires { blocks < 65536 }
-    ensures { result ≡ end_of c s moved can blocks cause sense }
+    ensures { result ≡ end_of c s moved can blocks outcome sense }
 {
-    let kind = Kind::of(cause);
+    let kind = Kind::of(outcome);
     Ended {
         left: Left {
             state: carried(s),
-            sense: sense,
-            cause: cause,
+            sense,
+            outcome,
         },
-        answer: answer_of(kind, cause, blocks),
-        moved: moved,
+        answer: answer_of(kind, outcome, blocks),
+        moved,
         wrong: wrong_by(kind, c, can),
     }
 }
@@ -97,25 +99,25 @@ pub fn accept(c: Decoded, s: Running, moved: usize, can: usize, blocks: usize) -
     requires { blocks < 65536 }
     ensures { result ≡ accepted_end c s moved can blocks }
 {
-    end(c, s, moved, can, blocks, 0, Sense::none())
+    end(c, s, moved, can, blocks, Ok(()), Sense::none())
 }
 
 // For what the parameters say, `read` bytes of which were read before that. `shown` are those that the cause shows: zeros, but for 39.
 pub fn refuse_parameters(
     c: Decoded,
     s: Running,
-    cause: u8,
+    cause: Cause,
     read: usize,
     shown: [u8; sizes::LOCATE],
 ) -> Ended
-    ensures { result ≡ parameters_refused c s cause read shown }
+    ensures { result ≡ parameters_refused c s (Err cause) read shown }
 {
-    end(c, s, read, 0, 0, cause, Sense::of(cause, shown))
+    end(c, s, read, 0, 0, Err(cause), Sense::of(cause, shown))
 }
 
 // Before any byte was read.
-pub fn refuse(c: Decoded, s: Running, cause: u8) -> Ended
-    ensures { result ≡ refused_end c s cause }
+pub fn refuse(c: Decoded, s: Running, cause: Cause) -> Ended
+    ensures { result ≡ refused_end c s (Err cause) }
 {
     refuse_parameters(c, s, cause, 0, [0u8; sizes::LOCATE])
 }

@@ -1,6 +1,7 @@
 // The causes (01, Causes) by name, each with 01's number: why a call is refused as a whole, or a command is. The definition has them by
 // number, in specs/Causes.antt, each with its rule; which is which, specs/Told.antt says.
-ghost use Rattle.model.specs.Told.{Numbers};
+ghost use Rattle.std.specs.Prelude.{◌≡◌};
+ghost use Rattle.model.specs.Told.{Numbers, told};
 
 #[derive(Clone, Copy, Debug, PartialEq, Eq)]
 pub enum Cause {
@@ -55,4 +56,11 @@ impl From<Cause> for u8 {
     fn from(cause: Cause) -> u8 {
         cause as u8
     }
+}
+
+// The byte of an answer that tells the cause: 0 is acceptance.
+pub fn byte_of(outcome: Result<(), Cause>) -> u8
+    ensures { result ≡ told outcome }
+{
+    outcome.err().map_or(0, u8::from)
 }

@@ -14,6 +14,7 @@ pub enum Kind {
 }
 
 impl Kind {
+    #[tactic(auto, unfolding(numbers::specs::Choice::one_of))]
     pub fn of(outcome: Result<(), Cause>) -> Kind
         ensures { result ≡ kind_of (told outcome) }
     {

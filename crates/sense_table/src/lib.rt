@@ -1,9 +1,11 @@
-// The sense of a refusal, from one table indexed by cause; `Sense::of` is the way in. docs/SENSE.md says why each row is what it is.
+// The sense of a refusal, from one table by cause; `Sense::of` is the way in. docs/SENSE.md says why each row is what it is.
 #![tactic(auto)]
 
 ghost use Rattle.std.specs.Prelude.{◌≡◌};
+ghost use Rattle.model.specs.Told.{cause_number};
 ghost use Rattle.sense_table.specs.Sensed.{row_of, sense_showing, no_sense, sense_bytes};
 
+use model::cause::Cause;
 use model::sizes;
 use numbers::bytes3;
 use slices::put_at;
@@ -32,51 +34,36 @@ const OPERATION_INCOMPLETE: SenseRow = SenseRow(0x80_01_0C);
 
 const NOT_ON_LINE: SenseRow = SenseRow(0x40_00_10);
 
-// The first cause of the table, and the last.
-const FIRST: u8 = 20;
-
-const LAST: u8 = 44;
-
-// The row of each cause from the first on.
-const SENSE_ROWS: [SenseRow; 25] = [
-    SHORT_ARGUMENT, // 20
-    INVALID_SEQUENCE, // 21
-    INVALID_ARGUMENT, // 22
-    INVALID_ARGUMENT, // 23
-    SIZE_EXCEPTION, // 24
-    INVALID_ARGUMENT, // 25
-    INVALID_ARGUMENT, // 26
-    NO_SENSE, // 27
-    NO_SENSE, // 28
-    NO_SENSE, // 29
-    INVALID_SEQUENCE, // 30
-    SHORT_ARGUMENT, // 31
-    INVALID_ARGUMENT, // 32
-    INVALID_ARGUMENT, // 33
-    INVALID_ARGUMENT, // 34
-    INVALID_ARGUMENT, // 35
-    FILE_PROTECTED, // 36
-    INVALID_ARGUMENT, // 37
-    WRITE_INHIBITED, // 38
-    OPERATION_INCOMPLETE, // 39
-    INVALID_SEQUENCE, // 40
-    INVALID_SEQUENCE, // 41
-    INVALID_SEQUENCE, // 42
-    INVALID_COMMAND, // 43
-    NOT_ON_LINE, // 44
-];
-
-// The table is held against the definition here, once. A cause that has no row has no sense.
-fn row_of(cause: u8) -> SenseRow
-    ensures { result ≡ row_of cause }
+// The row of each cause: the table is held against the definition here, once. A cause that is no unit check leaves no sense.
+#[tactic(auto, unfolding(model::specs::Sense::row_in, numbers::specs::Choice::pick))]
+fn row_of(cause: Cause) -> SenseRow
+    ensures { result ≡ row_of (cause_number cause) }
 {
-    if cause < FIRST {
-        return NO_SENSE;
+    match cause {
+        Cause::ShortExtent => SHORT_ARGUMENT,
+        Cause::SecondExtent => INVALID_SEQUENCE,
+        Cause::BadMask => INVALID_ARGUMENT,
+        Cause::Maintenance => INVALID_ARGUMENT,
+        Cause::OtherSize => SIZE_EXCEPTION,
+        Cause::FirstAfterLast => INVALID_ARGUMENT,
+        Cause::PastDevice => INVALID_ARGUMENT,
+        Cause::NoExtent => INVALID_SEQUENCE,
+        Cause::ShortLocate => SHORT_ARGUMENT,
+        Cause::BadModifier => INVALID_ARGUMENT,
+        Cause::BadOperation => INVALID_ARGUMENT,
+        Cause::BadCount => INVALID_ARGUMENT,
+        Cause::BadReplication => INVALID_ARGUMENT,
+        Cause::OutsideExtent => FILE_PROTECTED,
+        Cause::Forbidden => INVALID_ARGUMENT,
+        Cause::ReadOnly => WRITE_INHIBITED,
+        Cause::NoAlternate => OPERATION_INCOMPLETE,
+        Cause::IplNotFirst => INVALID_SEQUENCE,
+        Cause::NoLocate => INVALID_SEQUENCE,
+        Cause::OtherOperation => INVALID_SEQUENCE,
+        Cause::NotListed => INVALID_COMMAND,
+        Cause::NotReady => NOT_ON_LINE,
+        _ => NO_SENSE,
     }
-    if LAST < cause {
-        return NO_SENSE;
-    }
-    SENSE_ROWS[(cause - FIRST) as usize]
 }
 
 // The sense that a command leaves: bytes 0 to 7 by the table, 8 to 15 the parameters that its cause shows. The other eight are zeros.
@@ -103,8 +90,8 @@ impl Sense {
     }
 
     // Of a cause that shows these parameters.
-    pub fn of(cause: u8, parameters: [u8; sizes::LOCATE]) -> Sense
-        ensures { result ≡ sense_showing cause parameters }
+    pub fn of(cause: Cause, parameters: [u8; sizes::LOCATE]) -> Sense
+        ensures { result ≡ sense_showing (cause_number cause) parameters }
     {
         let row = row_of(cause);
         let bytes = bytes3(row.0 as usize);

@@ -8,7 +8,7 @@ use mathlib.Core.Path.{◌≡◌, refl, sym, ap, ◌∙◌}
 use mathlib.Core.Bool.{true, false, not, ◌&&◌, and-true}
 use mathlib.Core.List.{List, [], ◌∷◌, ◌++◌}
 use native.Mathlib.Omega.{arith}
-use borrow.Author.Tests.{ne_eqb}
+use borrow.Author.Tests.{eqb-false}
 use Rattle.numbers.specs.Choice.{◌=?◌, one_of, pick}
 use Rattle.model.specs.declared.decoded.Decoded.{Decoded}
 use Rattle.model.specs.declared.device.Device.{Device}
@@ -25,6 +25,11 @@ use Rattle.model.specs.Safe.{Mounted, HasMap, OnDevice}
 use Rattle.model.proofs.Blocks.{mounted_primaries}
 use Rattle.model.proofs.Read.{table_reads}
 use Rattle.model.proofs.Steps.{early_channel, early_unit, step_early, step_performed, performed_as}
+use Rattle.std.specs.Prelude.{Err}
+use Rattle.model.specs.declared.cause.Cause.{Cause}
+use Rattle.model.specs.declared.cause.Cause.TheVariants.{NotListed, NotReady}
+use Rattle.model.specs.Told.{cause_number}
+use Rattle.model.proofs.Told.{refused_told}
 use Rattle.buffered_log.specs.Counts.{counted}
 use Rattle.unit_state.specs.declared.Running.{Running}
 use Rattle.unit_state.specs.Standing.{holding, passed_on, unit_of, state_of, Sound}
@@ -53,23 +58,27 @@ passed_out u s main store = rw (passed_on_lem u s) refl
 -- the state is sound: that names the device, the store and the map
 module _ {dev : Device} {u : Record} {chain : List ℕ} {c : Decoded} {s : Running} (main : List ℕ) {store map : List ℕ} {r : Ended} (sound : Sound dev s store map) (told : Decodes chain c) where
   -- refused before its own table is read, by a cause that has read nothing
-  stopped : (w : ℕ) → first_of (channel_causes (command_of chain c) main ++ unit_causes (command_of chain c) (state_of (holding u map) s)) ≡ w → (w ≡ 0 → ⊥) → bytes_read w ≡ 0 → r ≡ refused_end c s w
+  stopped : (why : Cause) → first_of (channel_causes (command_of chain c) main ++ unit_causes (command_of chain c) (state_of (holding u map) s)) ≡ cause_number why → bytes_read (cause_number why) ≡ 0 → r ≡ refused_end c s (Err why)
       → Ends (holding u map) (command_of chain c) s r main store (step dev (command_of chain c) (state_of (holding u map) s) main store)
-  stopped w e n k f = rw (step_early dev (command_of chain c) (state_of (holding u map) s) main store w e n) (unread_ends (holding u map) chain c told s main store w r f k n)
+  stopped why e k f =
+      let n = eqb-false _ _ (refused_told why) in
+      rw (step_early dev (command_of chain c) (state_of (holding u map) s) main store (cause_number why) e n) (unread_ends (holding u map) chain c told s main store (Err why) r f k n)
 
-  pub by_channel : {w : ℕ} → w ≡ first_of (channel_causes (command_of chain c) main) → (w ≡ 0 → ⊥) → r ≡ refused_end c s w → Ends (holding u map) (command_of chain c) s r main store (step dev (command_of chain c) (state_of (holding u map) s) main store)
+  pub by_channel : {why : Cause} → cause_number why ≡ first_of (channel_causes (command_of chain c) main) → r ≡ refused_end c s (Err why) → Ends (holding u map) (command_of chain c) s r main store (step dev (command_of chain c) (state_of (holding u map) s) main store)
   unfolding channel_causes bytes_read one_of pick
-  by_channel {w} e n = stopped w (early_channel dev (command_of chain c) (state_of (holding u map) s) main store w (sym e) n) n (rw (sym e) at (table_reads 0 (channel_causes (command_of chain c) main) refl (rw (sym e) (ne_eqb _ _ n))))
+  by_channel {why} e =
+      stopped why (early_channel dev (command_of chain c) (state_of (holding u map) s) main store (cause_number why) (sym e) (eqb-false _ _ (refused_told why)))
+      (rw (sym e) at (table_reads 0 (channel_causes (command_of chain c) main) refl (rw (sym e) (refused_told why))))
 
-  pub by_ready : first_of (channel_causes (command_of chain c) main) ≡ 0 → u.ready =? 0 && not (one_of (SENSE ∷ SENSE_TYPE ∷ []) c.command) ≡ true → r ≡ refused_end c s 44
+  pub by_ready : first_of (channel_causes (command_of chain c) main) ≡ 0 → u.ready =? 0 && not (one_of (SENSE ∷ SENSE_TYPE ∷ []) c.command) ≡ true → r ≡ refused_end c s (Err NotReady)
       → Ends (holding u map) (command_of chain c) s r main store (step dev (command_of chain c) (state_of (holding u map) s) main store)
   unfolding unit_causes state_of unit_of counted with_counts with_sense bytes_read one_of pick
-  by_ready e b = stopped 44 (early_unit dev (command_of chain c) (state_of (holding u map) s) main store 44 e (first_here _ _ b)) (λ z. omega arith) refl
+  by_ready e b = stopped NotReady (early_unit dev (command_of chain c) (state_of (holding u map) s) main store 44 e (first_here _ _ b)) refl
 
   module _ (seen : Received (command_of chain c) u main) where
-    pub by_list : one_of commands c.command ≡ false → r ≡ refused_end c s 43 → Ends (holding u map) (command_of chain c) s r main store (step dev (command_of chain c) (state_of (holding u map) s) main store)
+    pub by_list : one_of commands c.command ≡ false → r ≡ refused_end c s (Err NotListed) → Ends (holding u map) (command_of chain c) s r main store (step dev (command_of chain c) (state_of (holding u map) s) main store)
     unfolding unit_causes state_of unit_of counted with_counts with_sense bytes_read one_of pick
-    by_list b = stopped 43 (early_unit dev (command_of chain c) (state_of (holding u map) s) main store 43 seen.channel (first_later _ _ seen.ready ∙ first_here _ _ (ap not b))) (λ z. omega arith) refl
+    by_list b = stopped NotListed (early_unit dev (command_of chain c) (state_of (holding u map) s) main store 43 seen.channel (first_later _ _ seen.ready ∙ first_here _ _ (ap not b))) refl
 
     -- the command may leave another map
     pub by_own : {k : ℕ} {map' main' store' : List ℕ} → c.command ≡ k → one_of commands k ≡ true → Ends (holding u map') (command_of chain c) s r main' store' (performed dev (command_of chain c) (state_of (holding u map) s) main store)

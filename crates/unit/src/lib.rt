@@ -16,6 +16,7 @@ use command_locate::locate;
 use command_sense::{read_log, sense, sense_type};
 use command_transfer::{read, read_ipl, write};
 use endings::{Ended, accept, refuse};
+use model::cause::Cause;
 use model::command;
 use model::decoded::Decoded;
 use model::device::Device;
@@ -59,7 +60,7 @@ fn perform(
         command::SENSE => sense(u, chain, c, s, main),
         command::SENSE_TYPE => sense_type(chain, c, s, main),
         command::READ_LOG => read_log(chain, c, s, main),
-        _ => refuse(c, s, 43),
+        _ => refuse(c, s, Cause::NotListed),
     }
 }
 
@@ -76,12 +77,11 @@ pub fn step(
     requires { Sound d s store.old map.old × Decodes chain.now c }
     ensures { Ends (holding u map.new) (command_of chain.now c) s result main.new store.new (step d (command_of chain.now c) (state_of (holding u map.old) s) main.old store.old) }
 {
-    let cause = channel_cause(chain, c, main);
-    if cause != 0 {
+    if let Err(cause) = channel_cause(chain, c, main) {
         return refuse(c, s, cause);
     }
     if not_ready(c.command, u.ready) {
-        return refuse(c, s, 44);
+        return refuse(c, s, Cause::NotReady);
     }
     if c.command == command::NO_OPERATION {
         return accept(c, passed(s), 0, 0, 0);

@@ -1,10 +1,11 @@
 // What changes while a chain runs, beside the record that it found, and the state after a command. A command that leaves other
-// sense than none, or than what was found, ends the chain: its cause and its sense are then beside the state, in `Left`.
+// sense than none, or than what was found, ends the chain: its outcome and its sense are then beside the state, in `Left`.
 #![tactic(auto)]
 
 ghost use Rattle.std.specs.Prelude.{◌≡◌};
 ghost use Rattle.unit_state.specs.Standing.{started, went_on, with_extent, with_locate, passed_on, sense_now};
 
+use model::cause::Cause;
 use model::extent::{Displacement, Extent, Located, Offset};
 use model::record::{Counts, Record};
 use model::sizes;
@@ -141,11 +142,11 @@ pub fn carried(s: Running) -> Running
     }
 }
 
-// How a command leaves the unit, or a chain: the state, the cause by which it was refused, or 0, and the sense of that cause.
+// How a command leaves the unit, or a chain: the state, whether it was accepted or by which cause refused, and the sense of that cause.
 // A refused command has the state here that it found.
 #[derive(Clone, Copy)]
 pub struct Left {
     pub state: Running,
     pub sense: Sense,
-    pub cause: u8,
+    pub outcome: Result<(), Cause>,
 }

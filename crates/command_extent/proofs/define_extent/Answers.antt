@@ -19,15 +19,15 @@ pub returns-then-c-lt-EXTENT : goal.returns-then-c-lt-EXTENT
 unfolding define_extent_causes state_of bytes_read one_of pick
 returns-then-c-lt-EXTENT c =
     let a = c.args in
-    λ u. refused_by u a.chain.now a.c c.requires.2.told a.s a.main.now a.store.now _ _ _ 20 _ ((performed_as a.d (command_of a.chain.now a.c) _ a.main.now a.store.now).define_extent_lem c.requires.3)
-    c.refuse.ensures (first_here _ _ (lt-ltb _ _ (rw c.requires.2.told.count at c.if-c-lt-EXTENT.true))) refl refl
+    λ u. refused_by u a.chain.now a.c c.requires.2.told a.s a.main.now a.store.now _ _ _ _ _ ((performed_as a.d (command_of a.chain.now a.c) _ a.main.now a.store.now).define_extent_lem c.requires.3)
+    c.refuse.ensures (first_here _ _ (lt-ltb _ _ (rw c.requires.2.told.count at c.if-c-lt-EXTENT.true))) refl
 
 pub returns-then-s : goal.returns-then-s
 unfolding define_extent_causes state_of bytes_read one_of pick
 returns-then-s c =
     let a = c.args in
-    λ u. refused_by u a.chain.now a.c c.requires.2.told a.s a.main.now a.store.now _ _ _ 21 _ ((performed_as a.d (command_of a.chain.now a.c) _ a.main.now a.store.now).define_extent_lem c.requires.3)
-    c.refuse-then-s.ensures (first_later _ _ (le-ltb _ _ (rw c.requires.2.told.count at c.if-c-lt-EXTENT.false)) ∙ first_here _ _ c.if-s.true) refl refl
+    λ u. refused_by u a.chain.now a.c c.requires.2.told a.s a.main.now a.store.now _ _ _ _ _ ((performed_as a.d (command_of a.chain.now a.c) _ a.main.now a.store.now).define_extent_lem c.requires.3)
+    c.refuse-then-s.ensures (first_later _ _ (le-ltb _ _ (rw c.requires.2.told.count at c.if-c-lt-EXTENT.false)) ∙ first_here _ _ c.if-s.true) refl
 
 pub fetch-requires : goal.fetch-requires
 fetch-requires c =

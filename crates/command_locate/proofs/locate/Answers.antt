@@ -17,15 +17,15 @@ pub returns-then-not-s : goal.returns-then-not-s
 unfolding locate_causes state_of bytes_read one_of pick
 returns-then-not-s c =
     let a = c.args in
-    λ store. refused_by (holding a.u a.map.now) a.chain.now a.c c.requires.0.told a.s a.main.now store _ _ _ 30 _ ((performed_as a.d (command_of a.chain.now a.c) _ a.main.now store).locate c.requires.1)
-    c.refuse.ensures (first_here _ _ c.if-not-s.true) refl refl
+    λ store. refused_by (holding a.u a.map.now) a.chain.now a.c c.requires.0.told a.s a.main.now store _ _ _ _ _ ((performed_as a.d (command_of a.chain.now a.c) _ a.main.now store).locate c.requires.1)
+    c.refuse.ensures (first_here _ _ c.if-not-s.true) refl
 
 pub returns-then-c-lt-LOCATE : goal.returns-then-c-lt-LOCATE
 unfolding locate_causes state_of bytes_read one_of pick
 returns-then-c-lt-LOCATE c =
     let a = c.args in
-    λ store. refused_by (holding a.u a.map.now) a.chain.now a.c c.requires.0.told a.s a.main.now store _ _ _ 31 _ ((performed_as a.d (command_of a.chain.now a.c) _ a.main.now store).locate c.requires.1)
-    c.refuse-then-c-lt-LOCATE.ensures (first_later _ _ c.if-not-s.false ∙ first_here _ _ (lt-ltb _ _ (rw c.requires.0.told.count at c.if-c-lt-LOCATE.true))) refl refl
+    λ store. refused_by (holding a.u a.map.now) a.chain.now a.c c.requires.0.told a.s a.main.now store _ _ _ _ _ ((performed_as a.d (command_of a.chain.now a.c) _ a.main.now store).locate c.requires.1)
+    c.refuse-then-c-lt-LOCATE.ensures (first_later _ _ c.if-not-s.false ∙ first_here _ _ (lt-ltb _ _ (rw c.requires.0.told.count at c.if-c-lt-LOCATE.true))) refl
 
 pub fetch-requires : goal.fetch-requires
 fetch-requires c =

@@ -1,10 +1,14 @@
 -- `shown_by` meets its contract. Assumes nothing.
-use mathlib.Core.Path.{sym, ◌∙◌}
+use mathlib.Core.Path.{sym, ap, ◌∙◌}
 use borrow.Author.Rules.{rules}
-use borrow.Author.Tests.{eq-eqb, ne_eqb}
+use Rattle.numbers.specs.Choice.{◌=?◌}
 use Rattle.numbers.proofs.Choice.{pick_true, pick_false}
 use Rattle.slices.specs.Parts.{zeros}
 use Rattle.slices.proofs.Laws.{length_zeros, put_copy}
+use Rattle.model.specs.declared.cause.Cause.{Cause}
+use Rattle.model.specs.declared.cause.Cause.TheVariants.{NoAlternate}
+use Rattle.model.specs.Told.{cause_number}
+use Rattle.model.proofs.Told.{apart}
 use Rattle.model.specs.Sense.{shown}
 use Rattle.command_locate.proofs.shown_by.Goals as goal
 
@@ -16,11 +20,11 @@ pub copy-requires : goal.copy-requires
 unfolding shown zeros
 copy-requires c = search rules
 
-pub returns-then-cause-eq39 : goal.returns-then-cause-eq39
+pub returns-in-NoAlternate : goal.returns-in-NoAlternate
 unfolding shown zeros
-returns-then-cause-eq39 c =
-    c.copy.ensures ∙ put_copy 8 _ _ (length_zeros 8) c.requires ∙ sym (pick_true _ _ _ (eq-eqb _ _ c.if-cause-eq39.true))
+returns-in-NoAlternate c =
+    c.copy.ensures ∙ put_copy 8 _ _ (length_zeros 8) c.requires ∙ sym (pick_true _ _ _ (ap (λ (x : Cause). cause_number x =? 39) c.in-NoAlternate.is))
 
-pub returns-else-cause-eq39 : goal.returns-else-cause-eq39
+pub returns-in_default : goal.returns-in_default
 unfolding shown zeros
-returns-else-cause-eq39 c = sym (pick_false _ _ _ (ne_eqb _ _ c.if-cause-eq39.false))
+returns-in_default c = sym (pick_false _ _ _ (apart c.args.cause NoAlternate c.in_default.not-NoAlternate))

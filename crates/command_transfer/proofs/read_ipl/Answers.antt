@@ -17,8 +17,8 @@ pub returns-then-not-none_or_ipl : goal.returns-then-not-none_or_ipl
 unfolding read_ipl_causes state_of bytes_read one_of pick
 returns-then-not-none_or_ipl c =
     let a = c.args in
-    λ u. refused_by (holding u a.map.now) a.chain.now a.c c.requires.1.told a.s a.main.now a.store.now _ _ _ 40 _ ((performed_as a.d (command_of a.chain.now a.c) _ a.main.now a.store.now).read_ipl_lem c.requires.2) c.refuse.ensures
-    (first_here _ _ (ap not (sym c.none_or_ipl.ensures) ∙ (ap not c.if-not-none_or_ipl.true))) refl refl
+    λ u. refused_by (holding u a.map.now) a.chain.now a.c c.requires.1.told a.s a.main.now a.store.now _ _ _ _ _ ((performed_as a.d (command_of a.chain.now a.c) _ a.main.now a.store.now).read_ipl_lem c.requires.2) c.refuse.ensures
+    (first_here _ _ (ap not (sym c.none_or_ipl.ensures) ∙ (ap not c.if-not-none_or_ipl.true))) refl
 
 pub read_mapped-requires : goal.read_mapped-requires
 read_mapped-requires c =

@@ -2,4 +2,4 @@
 use Rattle.endings.proofs.answer_of.Goals as goal
 
 pub returns : goal.returns
-returns c = rw (c.of-unit.ensures, c.of-channel.ensures)
+returns c = rw (c.of-unit.ensures, c.of-channel.ensures, c.from.ensures, c.byte_of.ensures)
