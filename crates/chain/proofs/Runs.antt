@@ -23,6 +23,7 @@ use Rattle.slices.specs.Parts.{zeros, put}
 use Rattle.model.specs.declared.decoded.Decoded.{Decoded}
 use Rattle.model.specs.declared.device.Device.{Device}
 use Rattle.model.specs.declared.kind.Kind.{Kind}
+use Rattle.model.specs.declared.kind.Kind.TheVariants.{Accepted}
 use Rattle.model.specs.declared.record.Record.{Record}
 use Rattle.model.specs.declared.record.UnitRecord.{UnitRecord}
 use Rattle.model.specs.Alternates.{map_size}
@@ -34,8 +35,6 @@ use Rattle.model.specs.Lent.{flag, block_count}
 use Rattle.model.specs.Pieces.{Command, commands_from, commands_in, command_at, final, fetched}
 use Rattle.model.specs.Decoded.{pieces_from, command_of, Decodes}
 use Rattle.model.specs.Parameters.{locate_length}
-use Rattle.model.specs.Told.{told, outcome_in, outcome_of}
-use Rattle.model.proofs.Told.{outcome_told}
 use Rattle.model.specs.Causes.{call_causes, kind_by, kind_of}
 use Rattle.model.specs.Sense.{shown}
 use Rattle.model.specs.Commands.{Out, step}
@@ -62,7 +61,7 @@ use Rattle.endings.specs.declared.Ended.{Ended}
 use Rattle.endings.specs.Ending.{answer_words, wrong_by, Leaves, Ends}
 use Rattle.endings.proofs.Answers.{answer_bytes_lem}
 use Rattle.answers.specs.Reached.{spread_over, answers_given}
-use Rattle.chain.specs.Walk.{carried_of, left_of, left_at, left_from, system_of, system_left, ccws_of, Begins, Turned, Walks, Allowed}
+use Rattle.chain.specs.Walk.{is_accepted, carried_of, left_of, left_at, left_from, system_of, system_left, ccws_of, Begins, Turned, Walks, Allowed}
 use Rattle.chain.specs.declared.run.Turn.{Turn}
 use Rattle.chain.specs.declared.run.Walked.{Walked}
 
@@ -124,11 +123,11 @@ module _ (dev : Device) (chain : List ℕ) where
   -- a command after which the chain goes on was accepted, and leaves the state that is carried
   on_left : (u : UnitRecord) (i : ℕ) (s : Running) (y : System) (l : Left) → more dev chain i y ≡ true → l ≡ left_at dev chain i s y
       → state_left u l ≡ state_of u l.state
-  unfolding more goes_on left_of outcome_of outcome_in pick
+  unfolding more goes_on left_of one_of
   on_left u i s y l g f =
       let accepted : (step_at dev chain i y).done.cause ≡ 0 = eqb-true _ _ (both_true _ _ (both_true _ _ g).0).0 in
-      let outcome : told l.outcome ≡ 0 = ap (λ (x : Left). told x.outcome) f ∙ ap (λ (n : ℕ). told (outcome_of n)) accepted in
-      rw outcome
+      let kind : l.kind ≡ Accepted = ap (λ (x : Left). x.kind) f ∙ ap kind_of accepted in
+      rw kind
 
   module _ (u : Record) (main₀ store₀ map₀ answers₀ : List ℕ) (n : ℕ) (s₀ : Running) where
     abbrev lent : System
@@ -227,24 +226,24 @@ pub left_known : (u : UnitRecord) (c : Command) (s : Running) (l : Left) (o : Ou
 unfolding left_of pick state_of unit_of counted with_counts
 left_known u c s l o p =
     let state = go (o.done.cause =? 0) refl in
-    let sense = p.sense ∙ ap (λ (w : ℕ). sense_showing w (shown w (fetched c o.main locate_length))) p.cause in
-    let outcome = sym (outcome_told l.outcome) ∙ ap outcome_of p.cause in
-    λ i. record { state = state i; sense = sense i; outcome = outcome i }
+    λ i. record { state = state i; sense = p.sense i; kind = p.kind i }
   where
     go : (b : Bool) → o.done.cause =? 0 ≡ b → l.state ≡ pick b (carried_of (s.kept && c.command =? NO_OPERATION) o.done.state) s
     go true e =
-        let z = p.cause ∙ eqb-true _ _ e in
-        let same : state_of u l.state ≡ o.done.state = rw z at p.state in
+        let z = eqb-true _ _ e in
+        let kind : l.kind ≡ Accepted = p.kind ∙ ap kind_of z in
+        let same : state_of u l.state ≡ o.done.state = rw kind at p.state in
         rw (← (p.kept z), ← same) refl
-    go false e = p.refused (λ z. eqb-false _ _ e (sym p.cause ∙ z))
+    go false e = p.refused (eqb-false _ _ e)
 
 -- one turn is the definition's: the command, the step, the answers
 
 -- of an accepted command, its channel status is zero where its length is not wrong
-go_by_kind : (zero channels wrong chained : Bool) → (zero && channel_by (kind_by zero channels) wrong =? 0 && chained) ≡ (zero && not (wrong_by (kind_by zero channels) wrong) && chained)
+go_by_kind : (zero channels wrong chained : Bool) → (zero && channel_by (kind_by zero channels) wrong =? 0 && chained) ≡ (is_accepted (kind_by zero channels) && not (wrong_by (kind_by zero channels) wrong) && chained)
 go_by_kind true channels true chained = refl
 go_by_kind true channels false chained = refl
-go_by_kind false channels wrong chained = refl
+go_by_kind false true wrong chained = refl
+go_by_kind false false wrong chained = refl
 
 -- what is put for a command is its answers
 given_answers : (chain : List ℕ) (c : Decoded) (d : Done) (last : Answer) (moved : ℕ) (wrong : Bool) → last ≡ answer_words (kind_of d.cause) d.cause d.blocks → moved ≡ d.moved
@@ -276,24 +275,24 @@ module _ (dev : Device) (chain : List ℕ) (at i : ℕ) (c : Decoded) (u : Recor
       let answer : answers_given chain c.area r.answer r.moved r.wrong ≡ answers_of k o.done = given_answers chain c o.done _ _ _ f.answer f.moved f.wrong m small few in
       rw (e, h, g, answer, f.moved, f.left.state, f.main_same, f.store_same)
 
-  turned_go : (b : Bool) → b ≡ (told r.left.outcome =? 0 && not r.wrong && bit c.flags.0 chain_command) → b ≡ more dev chain i found
+  turned_go : (b : Bool) → b ≡ (is_accepted r.left.kind && not r.wrong && bit c.flags.0 chain_command) → b ≡ more dev chain i found
   unfolding more step_at goes_on channel_status flag
   turned_go b g =
       let k : Command = command_of chain c in
       let d : Done = (step dev k (state_of (holding u map) s) main store).done in
-      rw e (g ∙ rw (f.left.cause, f.wrong, decodes.flags) (sym (go_by_kind (d.cause =? 0) (one_of (10 ∷ 11 ∷ 12 ∷ 13 ∷ []) d.cause) (wrong_length k d.can) (flag (final k) chain_command))))
+      rw e (g ∙ rw (f.left.kind, f.wrong, decodes.flags) (sym (go_by_kind (d.cause =? 0) (one_of (10 ∷ 11 ∷ 12 ∷ 13 ∷ []) d.cause) (wrong_length k d.can) (flag (final k) chain_command))))
 
   turned_left : r.left ≡ left_at dev chain i s found
   unfolding step_at
   turned_left = rw e (left_known (holding u map') (command_of chain c) s r.left _ f.left)
 
   -- it goes on after a last piece with flag 40
-  turned_on : (b : Bool) → b ≡ (told r.left.outcome =? 0 && not r.wrong && bit c.flags.0 chain_command) → b ≡ true → bit c.flags.0 chain_command ≡ true
-  turned_on b g e = (both_true (told r.left.outcome =? 0 && not r.wrong) _ (sym g ∙ e)).1
+  turned_on : (b : Bool) → b ≡ (is_accepted r.left.kind && not r.wrong && bit c.flags.0 chain_command) → b ≡ true → bit c.flags.0 chain_command ≡ true
+  turned_on b g e = (both_true (is_accepted r.left.kind && not r.wrong) _ (sym g ∙ e)).1
 
   pub turned : (answers' : List ℕ) (given : ℕ) (b : Bool) → answers' ≡ put answers (reached * answer_size) (answers_given chain c.area r.answer r.moved r.wrong)
       → given ≡ reached + ((spread_over chain c.area r.moved).filled + 1) → (spread_over chain c.area r.moved).residual < 65536 → Usable dev → s.located.blocks < 65536
-      → b ≡ (told r.left.outcome =? 0 && not r.wrong && bit c.flags.0 chain_command) → Begins chain (i + 1) c.area.end → at < c.area.end
+      → b ≡ (is_accepted r.left.kind && not r.wrong && bit c.flags.0 chain_command) → Begins chain (i + 1) c.area.end → at < c.area.end
       → (bit c.flags.0 chain_command ≡ true → Closes chain c.area.end)
       → Turned dev chain (holding u map') s found at i (record { left = r.left; end = c.area.end; reached = given; go = b }) main' store' answers'
   turned answers' given b h g m d l k y z o = record {

@@ -1,4 +1,5 @@
 -- What the code carries from command to command, and what a run and a call leave, beside the definition's words for it.
+--     is_accepted             no cause refused a command of this kind
 --     carried_of              what is carried of a state: all but the sense, which stands as the chain found it or is zeros
 --     left_of, left_at        what a command leaves that found s carried, and what command i leaves in a system
 --     left_from               what the run leaves, the chain from command i on, n commands at most: it goes on where `run` does
@@ -10,9 +11,11 @@
 --     Walks, Allowed          so is a run, and a call that no cause refuses
 --     called_with             what a call gives, with what was lent
 -- Assumes nothing.
-use Rattle.std.specs.Prelude.{ℕ, zero, suc, ◌+◌, ◌-◌, ◌*◌, ◌/◌, ◌≤◌, ◌<◌, ◌≡◌, Bool, true, ◌&&◌, List, length, drop, Ok}
+use Rattle.std.specs.Prelude.{ℕ, zero, suc, ◌+◌, ◌-◌, ◌*◌, ◌/◌, ◌≤◌, ◌<◌, ◌≡◌, Bool, true, false, ◌&&◌, List, length, drop}
 use Rattle.numbers.specs.Choice.{◌=?◌, pick}
 use Rattle.model.specs.declared.device.Device.{Device}
+use Rattle.model.specs.declared.kind.Kind.{Kind}
+use Rattle.model.specs.declared.kind.Kind.TheVariants.{Accepted, ProgramCheck, UnitCheck}
 use Rattle.model.specs.declared.record.Record.{Record}
 use Rattle.model.specs.declared.record.UnitRecord.{UnitRecord}
 use Rattle.model.specs.State.{State}
@@ -22,7 +25,7 @@ use Rattle.model.specs.Pieces.{Command, commands_from, commands_in, command_at, 
 use Rattle.model.specs.Answer.{answer_size}
 use Rattle.model.specs.Parameters.{locate_length}
 use Rattle.model.specs.Sense.{shown}
-use Rattle.model.specs.Told.{outcome_of}
+use Rattle.model.specs.Causes.{kind_of}
 use Rattle.model.specs.Commands.{Out}
 use Rattle.model.specs.Chain.{System, system, step_at, next, more, run, start, Called, called, call_of}
 use Rattle.model.specs.Safe.{Closes}
@@ -34,6 +37,12 @@ use Rattle.unit_state.specs.Standing.{holding, started, state_of, state_left, So
 use Rattle.chain.specs.declared.run.Turn.{Turn}
 use Rattle.chain.specs.declared.run.Walked.{Walked}
 use Rattle.chain.specs.declared.call.Returned.{Returned}
+
+-- of a command that no cause refused
+abbrev pub is_accepted : Kind → Bool
+is_accepted Accepted = true
+is_accepted ProgramCheck = false
+is_accepted UnitCheck = false
 
 abbrev pub carried_of : Bool → State → Running
 carried_of kept s = record {
@@ -50,7 +59,7 @@ unfoldable pub left_of : Command → Running → Out → Left
 left_of c s o = record {
   state = pick (o.done.cause =? 0) (carried_of (s.kept && c.command =? NO_OPERATION) o.done.state) s;
   sense = sense_showing o.done.cause (shown o.done.cause (fetched c o.main locate_length));
-  outcome = outcome_of o.done.cause;
+  kind = kind_of o.done.cause;
 }
 
 module _ (dev : Device) (chain : List ℕ) where
@@ -58,7 +67,7 @@ module _ (dev : Device) (chain : List ℕ) where
   left_at i s y = left_of (command_at chain i) s (step_at dev chain i y)
 
   unfoldable pub left_from : ℕ → ℕ → Running → System → Left
-  left_from zero i s y = record { state = s; sense = no_sense; outcome = Ok tt }
+  left_from zero i s y = record { state = s; sense = no_sense; kind = Accepted }
   left_from (suc n) i s y = pick (more dev chain i y) (left_from n (i + 1) (left_at i s y).state (next dev chain i y)) (left_at i s y)
 
   abbrev pub run_of : System → System

@@ -1,27 +1,25 @@
 // The run of a chain: one turn for each command reached, until one of them ends it.
 ghost use Rattle.std.specs.Prelude.{◌≡◌, not, ◌&&◌, ℕ, ◌≤◌, length};
 ghost use Rattle.numbers.specs.Bits.{bit};
-ghost use Rattle.numbers.specs.Choice.{◌=?◌};
 ghost use Rattle.model.specs.Names.{chain_command};
 ghost use Rattle.model.specs.Safe.{Closes};
-ghost use Rattle.model.specs.Told.{told};
 ghost use Rattle.unit_state.specs.Standing.{holding, Sound};
-ghost use Rattle.chain.specs.Walk.{system_of, Begins, InRun, Turned, Walks};
+ghost use Rattle.chain.specs.Walk.{is_accepted, system_of, Begins, InRun, Turned, Walks};
 
 use answers::put_answers;
 use channel::ccw::command_at;
-use model::cause::Cause;
 use model::ccw::Flags;
 use model::device::Device;
+use model::kind::Kind;
 use model::record::Record;
 use unit::step;
 use unit_state::{Left, Running};
 
 // "A refusal ends the chain", a wrong length ends it, and so does a last piece without flag 40.
-fn goes_on(last: Flags, outcome: Result<(), Cause>, wrong: bool) -> bool
-    ensures { result ≡ (told outcome =? 0 && not wrong && bit last.0 chain_command) }
+fn goes_on(last: Flags, kind: Kind, wrong: bool) -> bool
+    ensures { result ≡ (is_accepted kind && not wrong && bit last.0 chain_command) }
 {
-    outcome.is_ok() && !wrong && last.chained()
+    kind == Kind::Accepted && !wrong && last.chained()
 }
 
 // How one turn leaves the unit, the CCW behind its command, how many answers there are, and whether the chain goes on.
@@ -58,7 +56,7 @@ fn one_turn(
         left: l,
         end: c.area.end,
         reached: given,
-        go: goes_on(c.flags, l.outcome, e.wrong),
+        go: goes_on(c.flags, l.kind, e.wrong),
     }
 }
 

@@ -47,7 +47,7 @@ module _ (u : UnitRecord) (chain : List ℕ) (c : Decoded) (decodes : Decodes ch
   refused_ends w n p r e k f z =
       rw (e, k, f)
       (record {
-        left = record { state = ap (leaves (kind_of (told w)) (state_of u s)) (sense_is (told w) (shown (told w) (fetched (command_of chain c) main locate_length))); cause = refl; kept = λ y. absurd (z y); refused = λ _. refl; sense = refl };
+        left = record { state = ap (leaves (kind_of (told w)) (state_of u s)) (sense_is (told w) (shown (told w) (fetched (command_of chain c) main locate_length))); kind = refl; kept = λ y. absurd (z y); refused = λ _. refl; sense = refl };
         answer = refl;
         moved = refl;
         wrong = ap (wrong_by (kind_of (told w))) (told_wrong chain c 0 decodes);
@@ -64,10 +64,10 @@ module _ (u : UnitRecord) (chain : List ℕ) (c : Decoded) (decodes : Decodes ch
       (record {
         left = record {
           state = rw d refl;
-          cause = rw d refl;
+          kind = rw d refl;
           kept = λ _. k;
-          refused = λ n. absurd (n refl);
-          sense = sym (ap (sense_showing 0) (pick_false _ _ _ refl) ∙ none_showing);
+          refused = λ n. absurd (n (rw d refl));
+          sense = rw d (sym (ap (sense_showing 0) (pick_false _ _ _ refl) ∙ none_showing));
         };
         answer = rw d refl;
         moved = rw d refl;

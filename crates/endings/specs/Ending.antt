@@ -61,7 +61,7 @@ wrong_by UnitCheck wrong = false
 
 abbrev pub end_of : Decoded → Running → ℕ → ℕ → ℕ → Result ⊤ Cause → Sense → Ended
 end_of c s moved can blocks outcome sense = record {
-  left = record { state = s; sense = sense; outcome = outcome };
+  left = record { state = s; sense = sense; kind = kind_of (told outcome) };
   answer = answer_words (kind_of (told outcome)) (told outcome) blocks;
   moved = moved;
   wrong = wrong_by (kind_of (told outcome)) (wrong_told c can);
@@ -80,10 +80,10 @@ refused_end c s outcome = parameters_refused c s outcome 0 (zeros locate_length)
 -- in a chain that found record u, which has the map that is left, of a command that found state s
 pub record Leaves (u : UnitRecord) (c : Command) (s : Running) (l : Left) (o : Out) : Type 0 where
   pub state : state_left u l ≡ o.done.state
-  pub cause : told l.outcome ≡ o.done.cause
-  pub kept : told l.outcome ≡ 0 → l.state.kept ≡ (s.kept && c.command =? NO_OPERATION)
-  pub refused : (told l.outcome ≡ 0 → ⊥) → l.state ≡ s
-  pub sense : l.sense ≡ sense_showing (told l.outcome) (shown (told l.outcome) (fetched c o.main locate_length))
+  pub kind : l.kind ≡ kind_of o.done.cause
+  pub kept : o.done.cause ≡ 0 → l.state.kept ≡ (s.kept && c.command =? NO_OPERATION)
+  pub refused : (o.done.cause ≡ 0 → ⊥) → l.state ≡ s
+  pub sense : l.sense ≡ sense_showing o.done.cause (shown o.done.cause (fetched c o.main locate_length))
 
 pub record Ends (u : UnitRecord) (c : Command) (s : Running) (r : Ended) (main store : List ℕ) (o : Out) : Type 0 where
   pub left : Leaves u c s r.left o

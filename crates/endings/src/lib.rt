@@ -87,7 +87,7 @@ fn end(
         left: Left {
             state: carried(s),
             sense,
-            outcome,
+            kind,
         },
         answer: answer_of(kind, outcome, blocks),
         moved,

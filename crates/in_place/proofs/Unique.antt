@@ -29,7 +29,6 @@ use Rattle.model.specs.declared.status.ChannelStatus.{ChannelStatus}
 use Rattle.model.specs.Commands.{Out, after}
 use Rattle.model.specs.declared.device.Device.{Device}
 use Rattle.model.specs.State.{State}
-use Rattle.model.specs.Told.{told}
 use Rattle.model.specs.Causes.{kind_of}
 use Rattle.model.specs.Chain.{System, Called, called}
 use Rattle.buffered_log.specs.declared.Log.{Log}
@@ -60,7 +59,7 @@ told_unique P false false f g = refl
 -- the map that a `Left` stands for is the one that is lent
 map_left_lem : (u : Record) (map : List ℕ) (l : Left) → (state_left (holding u map) l).map ≡ map
 unfolding state_of after
-map_left_lem u map l = leaves_ind (λ (t : State). t.map ≡ map) (kind_of (told l.outcome)) (state_of (holding u map) l.state) (sense_bytes l.sense) refl refl refl
+map_left_lem u map l = leaves_ind (λ (t : State). t.map ≡ map) l.kind (state_of (holding u map) l.state) (sense_bytes l.sense) refl refl refl
 
 maps_same : (u : Record) (map map' : List ℕ) (l k : Left) → state_left (holding u map) l ≡ state_left (holding u map') k → map ≡ map'
 maps_same u map map' l k e = sym (map_left_lem u map l) ∙ ap (λ (t : State). t.map) e ∙ map_left_lem u map' k

@@ -6,7 +6,7 @@ ghost use Rattle.model.specs.Told.{told};
 use crate::cause::Cause;
 
 // Accepted, or refused: by the channel, or by the unit.
-#[derive(Clone, Copy)]
+#[derive(Clone, Copy, Debug, PartialEq, Eq)]
 pub enum Kind {
     Accepted,
     ProgramCheck,

@@ -19,7 +19,6 @@ use Rattle.model.specs.declared.kind.Kind.{Kind}
 use Rattle.model.specs.declared.kind.Kind.TheVariants.{Accepted, ProgramCheck, UnitCheck}
 use Rattle.model.specs.declared.record.Record.{Record}
 use Rattle.model.specs.State.{State}
-use Rattle.model.specs.Told.{told}
 use Rattle.model.specs.Causes.{kind_of}
 use Rattle.model.specs.Log.{with_sense, with_counts}
 use Rattle.model.specs.Commands.{after, leaves}
@@ -70,23 +69,20 @@ record_stored u d d₁ n m e =
     (ap record_of f ∙ sense_put (set b 33 u.read_only) u.sense (length-set b 33 _ ∙ long) m)
     ∙ rw (ready, read_only) refl
 
-pub sense_made : (k : Kind) (u : Record) (l : Left) → k ≡ kind_of (told l.outcome) → k ≡ UnitCheck → (unit_left u l).sense ≡ sense_bytes l.sense
+pub sense_made : (u : Record) (l : Left) → l.kind ≡ UnitCheck → (unit_left u l).sense ≡ sense_bytes l.sense
 unfolding after with_sense
-sense_made k u l e f = ap (λ (q : Kind). (leaves q (state_of (holding u []) l.state) (sense_bytes l.sense)).unit.sense) (sym e ∙ f)
+sense_made u l e = ap (λ (q : Kind). (leaves q (state_of (holding u []) l.state) (sense_bytes l.sense)).unit.sense) e
 
 -- the kinds that are no unit check
-pub sense_is : (k : Kind) (u : Record) (l : Left) → k ≡ kind_of (told l.outcome) → (k ≡ Accepted) ⊎ (k ≡ ProgramCheck) → (unit_left u l).sense ≡ sense_now u.sense l.state.kept
+pub sense_is : (u : Record) (l : Left) → (l.kind ≡ Accepted) ⊎ (l.kind ≡ ProgramCheck) → (unit_left u l).sense ≡ sense_now u.sense l.state.kept
 unfolding after state_of unit_of counted with_counts with_sense
-sense_is k u l e h = ap (λ (q : Kind). (leaves q (state_of (holding u []) l.state) (sense_bytes l.sense)).unit.sense) (sym e) ∙ go h
-  where
-    go : (k ≡ Accepted) ⊎ (k ≡ ProgramCheck) → (leaves k (state_of (holding u []) l.state) (sense_bytes l.sense)).unit.sense ≡ sense_now u.sense l.state.kept
-    go (inl p) = rw p refl
-    go (inr p) = rw p refl
+sense_is u l (inl p) = rw p refl
+sense_is u l (inr p) = rw p refl
 
 pub unit_left_lem : (u : Record) (l : Left) → unit_left u l ≡ counted (with_sense u (unit_left u l).sense) l.state.counts
 unfolding state_of unit_of counted with_counts with_sense after
 unit_left_lem u l =
-    leaves_ind (λ (s : State). s.unit ≡ counted (with_sense u s.unit.sense) l.state.counts) (kind_of (told l.outcome)) (state_of (holding u []) l.state) (sense_bytes l.sense) refl refl refl
+    leaves_ind (λ (s : State). s.unit ≡ counted (with_sense u s.unit.sense) l.state.counts) l.kind (state_of (holding u []) l.state) (sense_bytes l.sense) refl refl refl
 
 -- `sense` is what the first 24 bytes came back as
 pub left_stored : (l : Left) (d sense : List ℕ) → length d ≡ 34 → length sense ≡ 24 → sense ≡ (unit_left (record_of d) l).sense

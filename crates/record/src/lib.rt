@@ -91,7 +91,7 @@ fn put_sense(l: Left, to: &mut [u8])
     ensures { (u : Record) → u.sense ≡ to.old → to.new ≡ (unit_left u l).sense }
 {
     let left = l.sense;
-    match Kind::of(l.outcome) {
+    match l.kind {
         Kind::UnitCheck => {
             let sense = left.bytes();
             copy(&sense, to, sizes::SENSE);

@@ -64,9 +64,9 @@ module _ {dev : Device} {u : Record} {chain : List ℕ} {c : Decoded} {s : Runni
       let n = eqb-false _ _ (refused_told why) in
       rw (step_early dev (command_of chain c) (state_of (holding u map) s) main store (cause_number why) e n) (unread_ends (holding u map) chain c told s main store (Err why) r f k n)
 
-  pub by_channel : {why : Cause} → cause_number why ≡ first_of (channel_causes (command_of chain c) main) → r ≡ refused_end c s (Err why) → Ends (holding u map) (command_of chain c) s r main store (step dev (command_of chain c) (state_of (holding u map) s) main store)
+  pub by_channel : (why : Cause) → cause_number why ≡ first_of (channel_causes (command_of chain c) main) → r ≡ refused_end c s (Err why) → Ends (holding u map) (command_of chain c) s r main store (step dev (command_of chain c) (state_of (holding u map) s) main store)
   unfolding channel_causes bytes_read one_of pick
-  by_channel {why} e =
+  by_channel why e =
       stopped why (early_channel dev (command_of chain c) (state_of (holding u map) s) main store (cause_number why) (sym e) (eqb-false _ _ (refused_told why)))
       (rw (sym e) at (table_reads 0 (channel_causes (command_of chain c) main) refl (rw (sym e) (refused_told why))))
 

@@ -14,7 +14,6 @@ use Rattle.model.specs.declared.record.Counts.{Counts}
 use Rattle.model.specs.declared.record.Record.{Record}
 use Rattle.model.specs.declared.record.UnitRecord.{UnitRecord}
 use Rattle.model.specs.State.{State}
-use Rattle.model.specs.Told.{told}
 use Rattle.model.specs.Causes.{kind_of}
 use Rattle.model.proofs.Leaving.{leaves_ind, leaves_both}
 use Rattle.sense_table.specs.Sensed.{sense_bytes}
@@ -35,11 +34,11 @@ empty = record { unit = record { sense = []; blocks_read = []; blocks_written = 
 
 pub left_any : (u : Record) (map : List ℕ) (l : Left) → (state_left (holding u map) l).unit ≡ unit_left u l
 unfolding state_of after
-left_any u map l = leaves_both (λ (s t : State). s.unit ≡ t.unit) (kind_of (told l.outcome)) (state_of (holding u map) l.state) (state_of (holding u []) l.state) (sense_bytes l.sense) (sense_bytes l.sense) refl refl refl
+left_any u map l = leaves_both (λ (s t : State). s.unit ≡ t.unit) l.kind (state_of (holding u map) l.state) (state_of (holding u []) l.state) (sense_bytes l.sense) (sense_bytes l.sense) refl refl refl
 
 pub left_map : (u : Record) (map : List ℕ) (l : Left) → (state_left (holding u map) l).map ≡ map
 unfolding state_of after
-left_map u map l = leaves_ind (λ (s : State). s.map ≡ map) (kind_of (told l.outcome)) (state_of (holding u map) l.state) (sense_bytes l.sense) refl refl refl
+left_map u map l = leaves_ind (λ (s : State). s.map ≡ map) l.kind (state_of (holding u map) l.state) (sense_bytes l.sense) refl refl refl
 
 module _ (u : UnitRecord) where
   pub started_state : state_of u (started u.unit) ≡ start u.unit u.map

@@ -5,7 +5,7 @@
 --                                   another LOCATE, after a command that changed nothing
 --     holding                       a record with this map
 --     sense_now, unit_of, state_of  the pending sense, the unit record and the state that a `Running` stands for
---     state_left                    the state that a `Left` stands for: how its outcome leaves the one that is carried; unit_left   its record
+--     state_left                    the state that a `Left` stands for: how a command of its kind leaves the one that is carried; unit_left   its record
 --     Sound                         a device that a chain may run on, with its store and map, and a state that is safe on it, whatever record the chain found
 --     Handed                        a command of this chain that the channel passed on: each of its pieces is in main storage
 -- The run, the unit and the commands ask each other for `Sound` and `Handed`. Assumes nothing.
@@ -23,8 +23,6 @@ use Rattle.model.specs.declared.state.Before.{Before}
 use Rattle.model.specs.declared.state.Before.TheVariants.{Nothing, Locate, Other}
 use Rattle.model.specs.State.{State}
 use Rattle.model.specs.Lent.{block_count}
-use Rattle.model.specs.Causes.{kind_of}
-use Rattle.model.specs.Told.{told}
 use Rattle.model.specs.Log.{with_sense}
 use Rattle.model.specs.Commands.{leaves}
 use Rattle.model.specs.Decoded.{area_of, Decodes}
@@ -70,7 +68,7 @@ unfoldable pub state_of : UnitRecord → Running → State
 state_of u s = record { unit = unit_of u.unit s; map = u.map; defined = s.defined; extent = s.extent; before = s.before; located = s.located }
 
 abbrev pub state_left : UnitRecord → Left → State
-state_left u l = leaves (kind_of (told l.outcome)) (state_of u l.state) (sense_bytes l.sense)
+state_left u l = leaves l.kind (state_of u l.state) (sense_bytes l.sense)
 
 -- the record that it leaves, all but its map: that does not go by the map
 abbrev pub unit_left : Record → Left → Record

@@ -1,12 +1,12 @@
 // What changes while a chain runs, beside the record that it found, and the state after a command. A command that leaves other
-// sense than none, or than what was found, ends the chain: its outcome and its sense are then beside the state, in `Left`.
+// sense than none, or than what was found, ends the chain: its kind and its sense are then beside the state, in `Left`.
 #![tactic(auto)]
 
 ghost use Rattle.std.specs.Prelude.{◌≡◌};
 ghost use Rattle.unit_state.specs.Standing.{started, went_on, with_extent, with_locate, passed_on, sense_now};
 
-use model::cause::Cause;
 use model::extent::{Displacement, Extent, Located, Offset};
+use model::kind::Kind;
 use model::record::{Counts, Record};
 use model::sizes;
 use model::state::Before;
@@ -142,11 +142,11 @@ pub fn carried(s: Running) -> Running
     }
 }
 
-// How a command leaves the unit, or a chain: the state, whether it was accepted or by which cause refused, and the sense of that cause.
+// How a command leaves the unit, or a chain: the state, whether it was accepted or who refused it, and the sense of its cause.
 // A refused command has the state here that it found.
 #[derive(Clone, Copy)]
 pub struct Left {
     pub state: Running,
     pub sense: Sense,
-    pub outcome: Result<(), Cause>,
+    pub kind: Kind,
 }

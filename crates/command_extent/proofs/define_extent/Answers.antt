@@ -7,6 +7,7 @@ use Rattle.slices.specs.Parts.{zeros}
 use Rattle.numbers.specs.Choice.{pick, one_of}
 use Rattle.model.specs.Lent.{block_count}
 use Rattle.model.specs.Causes.{bytes_read, define_extent_causes}
+use Rattle.model.specs.declared.cause.Cause.TheVariants.{ShortExtent, SecondExtent}
 use Rattle.model.specs.Decoded.{command_of}
 use Rattle.model.proofs.Verdicts.{first_here, first_later}
 use Rattle.model.proofs.Steps.{performed_as}
@@ -19,14 +20,14 @@ pub returns-then-c-lt-EXTENT : goal.returns-then-c-lt-EXTENT
 unfolding define_extent_causes state_of bytes_read one_of pick
 returns-then-c-lt-EXTENT c =
     let a = c.args in
-    λ u. refused_by u a.chain.now a.c c.requires.2.told a.s a.main.now a.store.now _ _ _ _ _ ((performed_as a.d (command_of a.chain.now a.c) _ a.main.now a.store.now).define_extent_lem c.requires.3)
+    λ u. refused_by u a.chain.now a.c c.requires.2.told a.s a.main.now a.store.now _ _ _ ShortExtent _ ((performed_as a.d (command_of a.chain.now a.c) _ a.main.now a.store.now).define_extent_lem c.requires.3)
     c.refuse.ensures (first_here _ _ (lt-ltb _ _ (rw c.requires.2.told.count at c.if-c-lt-EXTENT.true))) refl
 
 pub returns-then-s : goal.returns-then-s
 unfolding define_extent_causes state_of bytes_read one_of pick
 returns-then-s c =
     let a = c.args in
-    λ u. refused_by u a.chain.now a.c c.requires.2.told a.s a.main.now a.store.now _ _ _ _ _ ((performed_as a.d (command_of a.chain.now a.c) _ a.main.now a.store.now).define_extent_lem c.requires.3)
+    λ u. refused_by u a.chain.now a.c c.requires.2.told a.s a.main.now a.store.now _ _ _ SecondExtent _ ((performed_as a.d (command_of a.chain.now a.c) _ a.main.now a.store.now).define_extent_lem c.requires.3)
     c.refuse-then-s.ensures (first_later _ _ (le-ltb _ _ (rw c.requires.2.told.count at c.if-c-lt-EXTENT.false)) ∙ first_here _ _ c.if-s.true) refl
 
 pub fetch-requires : goal.fetch-requires

@@ -9,6 +9,7 @@ use Rattle.model.proofs.Verdicts.{first_here, first_later}
 use Rattle.model.proofs.Steps.{performed_as}
 use Rattle.unit_state.specs.Standing.{holding, state_of}
 use Rattle.endings.proofs.Ends.{refused_by}
+use Rattle.model.specs.declared.cause.Cause.TheVariants.{NoExtent, ShortLocate}
 use Rattle.model.specs.Decoded.{command_of}
 use Rattle.command_locate.proofs.Locating.{locate_ends}
 use Rattle.command_locate.proofs.locate.Goals as goal
@@ -17,14 +18,14 @@ pub returns-then-not-s : goal.returns-then-not-s
 unfolding locate_causes state_of bytes_read one_of pick
 returns-then-not-s c =
     let a = c.args in
-    λ store. refused_by (holding a.u a.map.now) a.chain.now a.c c.requires.0.told a.s a.main.now store _ _ _ _ _ ((performed_as a.d (command_of a.chain.now a.c) _ a.main.now store).locate c.requires.1)
+    λ store. refused_by (holding a.u a.map.now) a.chain.now a.c c.requires.0.told a.s a.main.now store _ _ _ NoExtent _ ((performed_as a.d (command_of a.chain.now a.c) _ a.main.now store).locate c.requires.1)
     c.refuse.ensures (first_here _ _ c.if-not-s.true) refl
 
 pub returns-then-c-lt-LOCATE : goal.returns-then-c-lt-LOCATE
 unfolding locate_causes state_of bytes_read one_of pick
 returns-then-c-lt-LOCATE c =
     let a = c.args in
-    λ store. refused_by (holding a.u a.map.now) a.chain.now a.c c.requires.0.told a.s a.main.now store _ _ _ _ _ ((performed_as a.d (command_of a.chain.now a.c) _ a.main.now store).locate c.requires.1)
+    λ store. refused_by (holding a.u a.map.now) a.chain.now a.c c.requires.0.told a.s a.main.now store _ _ _ ShortLocate _ ((performed_as a.d (command_of a.chain.now a.c) _ a.main.now store).locate c.requires.1)
     c.refuse-then-c-lt-LOCATE.ensures (first_later _ _ c.if-not-s.false ∙ first_here _ _ (lt-ltb _ _ (rw c.requires.0.told.count at c.if-c-lt-LOCATE.true))) refl
 
 pub fetch-requires : goal.fetch-requires

@@ -9,6 +9,7 @@ use Rattle.model.proofs.Blocks.{mounted_alternates, mounted_primaries}
 use Rattle.model.proofs.Steps.{performed_as}
 use Rattle.unit_state.specs.Standing.{holding, state_of}
 use Rattle.endings.proofs.Ends.{refused_by}
+use Rattle.model.specs.declared.cause.Cause.TheVariants.{IplNotFirst}
 use Rattle.model.specs.Decoded.{command_of}
 use Rattle.command_transfer.proofs.Transfers.{ipl_ends}
 use Rattle.command_transfer.proofs.read_ipl.Goals as goal
@@ -17,7 +18,7 @@ pub returns-then-not-none_or_ipl : goal.returns-then-not-none_or_ipl
 unfolding read_ipl_causes state_of bytes_read one_of pick
 returns-then-not-none_or_ipl c =
     let a = c.args in
-    λ u. refused_by (holding u a.map.now) a.chain.now a.c c.requires.1.told a.s a.main.now a.store.now _ _ _ _ _ ((performed_as a.d (command_of a.chain.now a.c) _ a.main.now a.store.now).read_ipl_lem c.requires.2) c.refuse.ensures
+    λ u. refused_by (holding u a.map.now) a.chain.now a.c c.requires.1.told a.s a.main.now a.store.now _ _ _ IplNotFirst _ ((performed_as a.d (command_of a.chain.now a.c) _ a.main.now a.store.now).read_ipl_lem c.requires.2) c.refuse.ensures
     (first_here _ _ (ap not (sym c.none_or_ipl.ensures) ∙ (ap not c.if-not-none_or_ipl.true))) refl
 
 pub read_mapped-requires : goal.read_mapped-requires

@@ -6,7 +6,7 @@ use Rattle.command_transfer.proofs.write.Goals as goal
 
 pub returns-in-Err : goal.returns-in-Err
 returns-in-Err c =
-    λ u. transfer_refused (writing c.requires) c.writes.ensures c.in-Err.ensures refl c.refuse.ensures
+    λ u. transfer_refused (writing c.requires) c.writes.ensures c.in-Err.ensures c.in-Err.cause refl c.refuse.ensures
 
 pub located_move-m-requires : goal.located_move-m-requires
 located_move-m-requires c = let p = (passed (writing c.requires) c.writes.ensures c.in_default.ensures refl) in placed _ _ _ _ p.transfer.sound p.located

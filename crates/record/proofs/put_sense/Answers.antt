@@ -12,16 +12,16 @@ use Rattle.record.proofs.put_sense.Goals as goal
 pub returns-in-UnitCheck : goal.returns-in-UnitCheck
 returns-in-UnitCheck c =
     let whole = put_copy 24 _ c.bytes-sense.result c.requires (search rules) in
-    λ u e. c.copy.ensures ∙ whole ∙ c.bytes-sense.ensures ∙ sym (sense_made _ u c.args.l c.of.ensures c.in-UnitCheck.is)
+    λ u e. c.copy.ensures ∙ whole ∙ c.bytes-sense.ensures ∙ sym (sense_made u c.args.l c.in-UnitCheck.is)
 
 -- no unit check, and the sense that was found is no more
 pub returns-then-not-l : goal.returns-then-not-l
 unfolding sense_now pick
 returns-then-not-l c =
-    λ u e. rw (sense_is _ u _ c.of.ensures c.in-Accepted.is, not-true c.args.l.state.kept c.if-not-l.true, ← c.requires) c.clear.ensures
+    λ u e. rw (sense_is u c.args.l c.in-Accepted.is, not-true c.args.l.state.kept c.if-not-l.true, ← c.requires) c.clear.ensures
 
 -- no unit check, and the sense is kept
 pub returns-else-not-l : goal.returns-else-not-l
 unfolding sense_now pick
 returns-else-not-l c =
-    λ u e. rw (sense_is _ u _ c.of.ensures c.in-Accepted.is, not-false c.args.l.state.kept c.if-not-l.false) (sym e)
+    λ u e. rw (sense_is u c.args.l c.in-Accepted.is, not-false c.args.l.state.kept c.if-not-l.false) (sym e)

@@ -12,7 +12,7 @@ channel_cause-requires c = c.requires.1
 
 pub returns-in-Err : goal.returns-in-Err
 returns-in-Err c =
-    by_channel c.args.main.now c.requires.0 c.requires.1 c.in-Err.ensures c.refuse.ensures
+    by_channel c.args.main.now c.requires.0 c.requires.1 c.in-Err.cause c.in-Err.ensures c.refuse.ensures
 
 pub returns-then-not_ready : goal.returns-then-not_ready
 returns-then-not_ready c =
