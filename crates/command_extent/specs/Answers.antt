@@ -19,4 +19,4 @@ use Rattle.endings.specs.Ending.{accepted_end, parameters_refused}
 unfoldable pub defined_by : Device → ℕ → Decoded → Running → List ℕ → Ended
 defined_by dev blocks c s p =
     let cause = first_of (extent_causes dev blocks p) in
-    pick (cause =? 0) (accepted_end c (with_extent s s.counts (extent_in p) Other) extent_length extent_length 0) (parameters_refused c s (outcome_of cause) extent_length (zeros locate_length))
+    pick (cause =? 0) (accepted_end c (with_extent s s.counts (extent_in p) Other) extent_length extent_length 0) (parameters_refused s (outcome_of cause) extent_length (zeros locate_length))

@@ -113,7 +113,7 @@ fn define_by(d: Device, blocks: usize, c: Decoded, s: Running, p: &[u8]) -> Ende
             let t = extent_set(s, s.counts, e, Before::Other);
             accept(c, t, sizes::EXTENT, sizes::EXTENT, 0)
         }
-        Err(cause) => refuse_parameters(c, s, cause, sizes::EXTENT, [0u8; sizes::LOCATE]),
+        Err(cause) => refuse_parameters(s, cause, sizes::EXTENT, [0u8; sizes::LOCATE]),
     }
 }
 
@@ -129,10 +129,10 @@ pub fn define_extent(
     ensures { (u : UnitRecord) → Performs d chain.now c s result u main.now store.now u main.now store.now }
 {
     if c.count < sizes::EXTENT {
-        return refuse(c, s, Cause::ShortExtent);
+        return refuse(s, Cause::ShortExtent);
     }
     if s.defined {
-        return refuse(c, s, Cause::SecondExtent);
+        return refuse(s, Cause::SecondExtent);
     }
     let mut p = [0u8; sizes::EXTENT];
     fetch(chain, c.area, main, &mut p, sizes::EXTENT);

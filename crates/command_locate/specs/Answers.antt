@@ -22,7 +22,7 @@ use Rattle.endings.specs.Ending.{accepted_end, parameters_refused}
 unfoldable pub located_by : Device → UnitRecord → Decoded → Running → List ℕ → Ended
 located_by dev u c s p =
     let cause = first_of (location_causes dev (state_of u s) p) in
-    pick (cause =? 0) (accepted_end c (with_locate s (with_movement s.counts) (located_in p)) locate_length locate_length 0) (parameters_refused c s (outcome_of cause) locate_length (shown cause p))
+    pick (cause =? 0) (accepted_end c (with_locate s (with_movement s.counts) (located_in p)) locate_length locate_length 0) (parameters_refused s (outcome_of cause) locate_length (shown cause p))
 
 unfoldable pub map_left : Device → UnitRecord → Running → List ℕ → List ℕ
 map_left dev u s p =

@@ -232,7 +232,7 @@ fn locate_by(d: Device, u: Record, c: Decoded, s: Running, map: &mut [u8], p: &[
     ensures left { map.new ≡ map_left d (holding u map.old) s p.now }
 {
     if let Err(cause) = locate_parameters(d, u, s, map, p) {
-        return refuse_parameters(c, s, cause, sizes::LOCATE, shown_by(cause, p));
+        return refuse_parameters(s, cause, sizes::LOCATE, shown_by(cause, p));
     }
     let l = located_in(p);
     leave_map(d, s.extent, l, map);
@@ -254,10 +254,10 @@ pub fn locate(
     ensures { (store : List ℕ) → Performs d chain.now c s result (holding u map.old) main.now store (holding u map.new) main.now store }
 {
     if !s.defined {
-        return refuse(c, s, Cause::NoExtent);
+        return refuse(s, Cause::NoExtent);
     }
     if c.count < sizes::LOCATE {
-        return refuse(c, s, Cause::ShortLocate);
+        return refuse(s, Cause::ShortLocate);
     }
     let mut p = [0u8; sizes::LOCATE];
     fetch(chain, c.area, main, &mut p, sizes::LOCATE);

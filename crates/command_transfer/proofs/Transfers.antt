@@ -98,7 +98,7 @@ module _ {follows : ℕ → Bool} {dev : Device} {chain : List ℕ} {c : Decoded
   unfolding transfer_causes state_of
   given u = rw (← located) (sym found)
 
-  pub transfer_refused : {u : UnitRecord} {r : Ended} (cause : Cause) → w ≡ cause_number cause → r ≡ refused_end c s (Err cause) → Performs dev chain c s r u main store u main store
+  pub transfer_refused : {u : UnitRecord} {r : Ended} (cause : Cause) → w ≡ cause_number cause → r ≡ refused_end s (Err cause) → Performs dev chain c s r u main store u main store
   unfolding transfer_causes bytes_read one_of pick
   transfer_refused {u} {r} cause n e =
       let verdict : first_of (transfer_causes follows (state_of u s)) ≡ cause_number cause = given u ∙ n in

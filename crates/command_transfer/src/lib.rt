@@ -110,7 +110,7 @@ pub fn read(
 {
     let l = s.located;
     if let Err(cause) = transfer_cause(s, operation::reads(l.operation)) {
-        return refuse(c, s, cause);
+        return refuse(s, cause);
     }
     let m = located_move(d, c, s);
     let blocks = l.blocks as usize;
@@ -153,7 +153,7 @@ pub fn write(
 {
     let l = s.located;
     if let Err(cause) = transfer_cause(s, operation::writes(l.operation)) {
-        return refuse(c, s, cause);
+        return refuse(s, cause);
     }
     let m = located_move(d, c, s);
     let blocks = l.blocks as usize;
@@ -197,7 +197,7 @@ pub fn read_ipl(
 {
     let before = s.before;
     if !none_or_ipl(before) {
-        return refuse(c, s, Cause::IplNotFirst);
+        return refuse(s, Cause::IplNotFirst);
     }
     let n = least(c.count, d.block);
     read_mapped(d, store, map, 0, 1, chain, c.area, main, n);

@@ -2,13 +2,14 @@
 --     answer_words, answer_bytes  an answer as the code carries it, and its bytes, once the residual of a piece is in it (with_residual)
 --     marked                      those bytes, where the length is wrong
 --     wrong_told, wrong_by        the length is wrong, by what the code carries of the command; of an accepted command alone
---     end_of                      what `end` makes, whole; accepted_end   of a command that is accepted
---     parameters_refused          of one that its parameters refuse, so many bytes of which were read; refused_end   of one that has read none
+--     accepted_end                how a command ends that is accepted
+--     refusal_of                  what a refused one shows; parameters_refused   how it ends, for its parameters, so many bytes of which were read;
+--                                 refused_end   one that has read none
 --     Leaves                      what is left of the unit is what the definition's command left, and nothing in it is open
 --     Ends                        so is all that a command gives
 --     Performs                    so it is of a command that the channel and the unit passed on: the promise of every command
 -- Assumes nothing.
-use Rattle.std.specs.Prelude.{ℕ, ◌+◌, ◌*◌, ◌≡◌, Bool, true, false, not, ◌&&◌, List, ◌++◌, set, Result, Ok, ⊤}
+use Rattle.std.specs.Prelude.{ℕ, ◌+◌, ◌*◌, ◌≡◌, Bool, true, false, not, ◌&&◌, List, ◌++◌, set, Result, ⊤}
 use Rattle.numbers.specs.Choice.{◌=?◌}
 use Rattle.numbers.specs.Big.{bytes4}
 use Rattle.slices.specs.Parts.{zeros}
@@ -35,6 +36,7 @@ use Rattle.unit_state.specs.declared.Left.{Left}
 use Rattle.unit_state.specs.Standing.{state_of, state_left}
 use Rattle.endings.specs.declared.Answer.{Answer}
 use Rattle.endings.specs.declared.Ended.{Ended}
+use Rattle.endings.specs.declared.Refusal.{Refusal}
 
 -- unit status, channel status and residual (2), which is still 0; cause, zero and blocks moved (2)
 abbrev pub answer_words : Kind → ℕ → ℕ → Answer
@@ -59,23 +61,29 @@ wrong_by Accepted wrong = wrong
 wrong_by ProgramCheck wrong = false
 wrong_by UnitCheck wrong = false
 
-abbrev pub end_of : Decoded → Running → ℕ → ℕ → ℕ → Result ⊤ Cause → Sense → Ended
-end_of c s moved can blocks outcome sense = record {
-  left = record { state = s; sense = sense; kind = kind_of (told outcome) };
-  answer = answer_words (kind_of (told outcome)) (told outcome) blocks;
+abbrev pub accepted_end : Decoded → Running → ℕ → ℕ → ℕ → Ended
+accepted_end c s moved can blocks = record {
+  left = record { state = s; sense = no_sense; kind = Accepted };
+  answer = answer_words Accepted 0 blocks;
   moved = moved;
-  wrong = wrong_by (kind_of (told outcome)) (wrong_told c can);
+  wrong = wrong_told c can;
 }
 
-abbrev pub accepted_end : Decoded → Running → ℕ → ℕ → ℕ → Ended
-accepted_end c s moved can blocks = end_of c s moved can blocks (Ok tt) no_sense
-
 -- the parameters are those that its cause shows
-abbrev pub parameters_refused : Decoded → Running → Result ⊤ Cause → ℕ → List ℕ → Ended
-parameters_refused c s outcome read parameters = end_of c s read 0 0 outcome (sense_showing (told outcome) parameters)
+abbrev pub refusal_of : Result ⊤ Cause → List ℕ → Refusal
+refusal_of outcome parameters = record {
+  answer = answer_words (kind_of (told outcome)) (told outcome) 0;
+  sense = sense_showing (told outcome) parameters;
+  kind = kind_of (told outcome);
+}
 
-abbrev pub refused_end : Decoded → Running → Result ⊤ Cause → Ended
-refused_end c s outcome = parameters_refused c s outcome 0 (zeros locate_length)
+abbrev pub parameters_refused : Running → Result ⊤ Cause → ℕ → List ℕ → Ended
+parameters_refused s outcome read parameters =
+    let r = refusal_of outcome parameters in
+    record { left = record { state = s; sense = r.sense; kind = r.kind }; answer = r.answer; moved = read; wrong = false }
+
+abbrev pub refused_end : Running → Result ⊤ Cause → Ended
+refused_end s outcome = parameters_refused s outcome 0 (zeros locate_length)
 
 -- in a chain that found record u, which has the map that is left, of a command that found state s
 pub record Leaves (u : UnitRecord) (c : Command) (s : Running) (l : Left) (o : Out) : Type 0 where

@@ -1,10 +1,10 @@
-// How a command ends, accepted or refused: `end` makes its answer, and says how the unit is left. `accept` and `refuse` are the
-// two ways to it that most commands take.
+// How a command ends, accepted or refused, with its answer, and how the unit is left: `accept`, `refuse`, and `refuse_parameters` for what
+// the parameters say.
 #![tactic(auto)]
 
 ghost use Rattle.std.specs.Prelude.{◌≡◌, ◌<◌, Err};
 ghost use Rattle.model.specs.Told.{told};
-ghost use Rattle.endings.specs.Ending.{answer_words, wrong_told, wrong_by, end_of, accepted_end, parameters_refused, refused_end};
+ghost use Rattle.endings.specs.Ending.{answer_words, wrong_told, accepted_end, refusal_of, parameters_refused, refused_end};
 
 use model::cause::{Cause, byte_of};
 use model::decoded::Decoded;
@@ -57,67 +57,72 @@ fn wrong_length(c: Decoded, can: usize) -> bool
     c.count != can
 }
 
-// Of an accepted command alone.
-fn wrong_by(kind: Kind, c: Decoded, can: usize) -> bool
-    ensures { result ≡ wrong_by kind (wrong_told c can) }
-{
-    match kind {
-        Kind::Accepted => wrong_length(c, can),
-        Kind::ProgramCheck => false,
-        Kind::UnitCheck => false,
-    }
-}
-
-// A command that moved so many bytes of those that it could, and so many blocks. The state is the one that is
-// left, or, of a refused command, the one that it found; the sense is that of its cause.
-fn end(
-    c: Decoded,
-    s: Running,
-    moved: usize,
-    can: usize,
-    blocks: usize,
-    outcome: Result<(), Cause>,
-    sense: Sense,
-) -> Ended
-    requires { blocks < 65536 }
-    ensures { result ≡ end_of c s moved can blocks outcome sense }
-{
-    let kind = Kind::of(outcome);
-    Ended {
-        left: Left {
-            state: carried(s),
-            sense,
-            kind,
-        },
-        answer: answer_of(kind, outcome, blocks),
-        moved,
-        wrong: wrong_by(kind, c, can),
-    }
-}
-
+// Of a command that moved so many bytes of those that it could, and so many blocks, and leaves this state.
 pub fn accept(c: Decoded, s: Running, moved: usize, can: usize, blocks: usize) -> Ended
     requires { blocks < 65536 }
     ensures { result ≡ accepted_end c s moved can blocks }
 {
-    end(c, s, moved, can, blocks, Ok(()), Sense::none())
+    let kind = Kind::Accepted;
+    Ended {
+        left: Left {
+            state: carried(s),
+            sense: Sense::none(),
+            kind,
+        },
+        answer: answer_of(kind, Ok(()), blocks),
+        moved,
+        wrong: wrong_length(c, can),
+    }
+}
+
+// What a refused command shows.
+#[derive(Clone, Copy)]
+struct Refusal {
+    answer: Answer,
+    sense: Sense,
+    kind: Kind,
+}
+
+// By its cause. Apart from the state, and not inlined: else every command hands its state on by way of memory (docs/SPEED.md).
+#[inline(never)]
+fn show_refusal(cause: Cause, shown: [u8; sizes::LOCATE]) -> Refusal
+    ensures { result ≡ refusal_of (Err cause) shown }
+{
+    let kind = Kind::of(Err(cause));
+    Refusal {
+        answer: answer_of(kind, Err(cause), 0),
+        sense: Sense::of(cause, shown),
+        kind,
+    }
 }
 
 // For what the parameters say, `read` bytes of which were read before that. `shown` are those that the cause shows: zeros, but for 39.
+// The state is the one that the command found.
 pub fn refuse_parameters(
-    c: Decoded,
     s: Running,
     cause: Cause,
     read: usize,
     shown: [u8; sizes::LOCATE],
 ) -> Ended
-    ensures { result ≡ parameters_refused c s (Err cause) read shown }
+    ensures { result ≡ parameters_refused s (Err cause) read shown }
 {
-    end(c, s, read, 0, 0, Err(cause), Sense::of(cause, shown))
+    let r = show_refusal(cause, shown);
+    Ended {
+        left: Left {
+            state: carried(s),
+            sense: r.sense,
+            kind: r.kind,
+        },
+        answer: r.answer,
+        moved: read,
+        wrong: false,
+    }
 }
 
 // Before any byte was read.
-pub fn refuse(c: Decoded, s: Running, cause: Cause) -> Ended
-    ensures { result ≡ refused_end c s (Err cause) }
+#[tactic(auto, unfolding(slices::specs::Parts::zeros))]
+pub fn refuse(s: Running, cause: Cause) -> Ended
+    ensures { result ≡ refused_end s (Err cause) }
 {
-    refuse_parameters(c, s, cause, 0, [0u8; sizes::LOCATE])
+    refuse_parameters(s, cause, 0, [0u8; sizes::LOCATE])
 }

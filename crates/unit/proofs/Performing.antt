@@ -58,25 +58,25 @@ passed_out u s main store = rw (passed_on_lem u s) refl
 -- the state is sound: that names the device, the store and the map
 module _ {dev : Device} {u : Record} {chain : List ℕ} {c : Decoded} {s : Running} (main : List ℕ) {store map : List ℕ} {r : Ended} (sound : Sound dev s store map) (told : Decodes chain c) where
   -- refused before its own table is read, by a cause that has read nothing
-  stopped : (why : Cause) → first_of (channel_causes (command_of chain c) main ++ unit_causes (command_of chain c) (state_of (holding u map) s)) ≡ cause_number why → bytes_read (cause_number why) ≡ 0 → r ≡ refused_end c s (Err why)
+  stopped : (why : Cause) → first_of (channel_causes (command_of chain c) main ++ unit_causes (command_of chain c) (state_of (holding u map) s)) ≡ cause_number why → bytes_read (cause_number why) ≡ 0 → r ≡ refused_end s (Err why)
       → Ends (holding u map) (command_of chain c) s r main store (step dev (command_of chain c) (state_of (holding u map) s) main store)
   stopped why e k f =
       let n = eqb-false _ _ (refused_told why) in
       rw (step_early dev (command_of chain c) (state_of (holding u map) s) main store (cause_number why) e n) (unread_ends (holding u map) chain c told s main store (Err why) r f k n)
 
-  pub by_channel : (why : Cause) → cause_number why ≡ first_of (channel_causes (command_of chain c) main) → r ≡ refused_end c s (Err why) → Ends (holding u map) (command_of chain c) s r main store (step dev (command_of chain c) (state_of (holding u map) s) main store)
+  pub by_channel : (why : Cause) → cause_number why ≡ first_of (channel_causes (command_of chain c) main) → r ≡ refused_end s (Err why) → Ends (holding u map) (command_of chain c) s r main store (step dev (command_of chain c) (state_of (holding u map) s) main store)
   unfolding channel_causes bytes_read one_of pick
   by_channel why e =
       stopped why (early_channel dev (command_of chain c) (state_of (holding u map) s) main store (cause_number why) (sym e) (eqb-false _ _ (refused_told why)))
       (rw (sym e) at (table_reads 0 (channel_causes (command_of chain c) main) refl (rw (sym e) (refused_told why))))
 
-  pub by_ready : first_of (channel_causes (command_of chain c) main) ≡ 0 → u.ready =? 0 && not (one_of (SENSE ∷ SENSE_TYPE ∷ []) c.command) ≡ true → r ≡ refused_end c s (Err NotReady)
+  pub by_ready : first_of (channel_causes (command_of chain c) main) ≡ 0 → u.ready =? 0 && not (one_of (SENSE ∷ SENSE_TYPE ∷ []) c.command) ≡ true → r ≡ refused_end s (Err NotReady)
       → Ends (holding u map) (command_of chain c) s r main store (step dev (command_of chain c) (state_of (holding u map) s) main store)
   unfolding unit_causes state_of unit_of counted with_counts with_sense bytes_read one_of pick
   by_ready e b = stopped NotReady (early_unit dev (command_of chain c) (state_of (holding u map) s) main store 44 e (first_here _ _ b)) refl
 
   module _ (seen : Received (command_of chain c) u main) where
-    pub by_list : one_of commands c.command ≡ false → r ≡ refused_end c s (Err NotListed) → Ends (holding u map) (command_of chain c) s r main store (step dev (command_of chain c) (state_of (holding u map) s) main store)
+    pub by_list : one_of commands c.command ≡ false → r ≡ refused_end s (Err NotListed) → Ends (holding u map) (command_of chain c) s r main store (step dev (command_of chain c) (state_of (holding u map) s) main store)
     unfolding unit_causes state_of unit_of counted with_counts with_sense bytes_read one_of pick
     by_list b = stopped NotListed (early_unit dev (command_of chain c) (state_of (holding u map) s) main store 43 seen.channel (first_later _ _ seen.ready ∙ first_here _ _ (ap not b))) refl
 

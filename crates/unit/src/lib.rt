@@ -60,7 +60,7 @@ fn perform(
         command::SENSE => sense(u, chain, c, s, main),
         command::SENSE_TYPE => sense_type(chain, c, s, main),
         command::READ_LOG => read_log(chain, c, s, main),
-        _ => refuse(c, s, Cause::NotListed),
+        _ => refuse(s, Cause::NotListed),
     }
 }
 
@@ -78,10 +78,10 @@ pub fn step(
     ensures { Ends (holding u map.new) (command_of chain.now c) s result main.new store.new (step d (command_of chain.now c) (state_of (holding u map.old) s) main.old store.old) }
 {
     if let Err(cause) = channel_cause(chain, c, main) {
-        return refuse(c, s, cause);
+        return refuse(s, cause);
     }
     if not_ready(c.command, u.ready) {
-        return refuse(c, s, Cause::NotReady);
+        return refuse(s, Cause::NotReady);
     }
     if c.command == command::NO_OPERATION {
         return accept(c, passed(s), 0, 0, 0);

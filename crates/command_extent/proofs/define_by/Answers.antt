@@ -23,5 +23,5 @@ pub returns-in-Err : goal.returns-in-Err
 unfolding defined_by zeros
 returns-in-Err c =
     c.refuse_parameters.ensures
-    ∙ ap (λ (w : Result ⊤ Cause). parameters_refused c.args.c c.args.s w extent_length (zeros locate_length)) (sym (refusal_named _ _ c.in-Err.ensures))
+    ∙ ap (λ (w : Result ⊤ Cause). parameters_refused c.args.s w extent_length (zeros locate_length)) (sym (refusal_named _ _ c.in-Err.ensures))
     ∙ sym (pick_false _ _ _ (refusal_given _ _ c.in-Err.ensures))

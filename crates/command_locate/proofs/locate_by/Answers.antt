@@ -44,8 +44,8 @@ returns-in-Err c =
     let given : cause_number c.in-Err.cause ≡ verdict = c.in-Err.ensures in
     record {
       ended = c.refuse_parameters.ensures
-          ∙ ap (parameters_refused a.c a.s (Err c.in-Err.cause) locate_length) (c.shown_by.ensures ∙ ap (λ (v : ℕ). shown v a.p.now) given)
-          ∙ ap (λ (w : Result ⊤ Cause). parameters_refused a.c a.s w locate_length (shown verdict a.p.now)) (sym (refusal_named _ _ given))
+          ∙ ap (parameters_refused a.s (Err c.in-Err.cause) locate_length) (c.shown_by.ensures ∙ ap (λ (v : ℕ). shown v a.p.now) given)
+          ∙ ap (λ (w : Result ⊤ Cause). parameters_refused a.s w locate_length (shown verdict a.p.now)) (sym (refusal_named _ _ given))
           ∙ sym (pick_false _ _ _ (refusal_given _ _ given));
       left = sym (pick_false _ _ _ (refusal_given _ _ given));
     }
