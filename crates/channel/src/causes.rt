@@ -9,7 +9,7 @@ ghost use Rattle.model.specs.Told.{told};
 use crate::ccw::next_piece;
 use model::cause::Cause;
 use model::ccw::Piece;
-use model::command;
+use model::command::is_no_operation;
 use model::decoded::{Area, Decoded};
 
 // The low four bits are 0 or 8: to the channel, no command.
@@ -24,10 +24,7 @@ fn leaves_storage(command: u8, p: Piece, held: usize) -> bool
     requires { PieceFits p }
     ensures { result ≡ leaves_storage command p held }
 {
-    if command == command::NO_OPERATION {
-        return false;
-    }
-    held < p.address + p.count
+    !is_no_operation(command) && held < p.address + p.count
 }
 
 // In their order, of one piece.

@@ -7,10 +7,11 @@ ghost use Rattle.model.specs.Told.{told};
 ghost use Rattle.endings.specs.Ending.{answer_words, wrong_told, accepted_end, refusal_of, parameters_refused, refused_end};
 
 use model::cause::{Cause, byte_of};
+use model::command::is_no_operation;
 use model::decoded::Decoded;
 use model::kind::Kind;
 use model::status::{ChannelStatus, UnitStatus};
-use model::{command, sizes};
+use model::sizes;
 use sense_table::Sense;
 use unit_state::{Left, Running, carried};
 
@@ -48,13 +49,7 @@ fn answer_of(kind: Kind, outcome: Result<(), Cause>, blocks: usize) -> Answer
 fn wrong_length(c: Decoded, can: usize) -> bool
     ensures { result ≡ wrong_told c can }
 {
-    if c.command == command::NO_OPERATION {
-        return false;
-    }
-    if c.flags.suppressed() {
-        return false;
-    }
-    c.count != can
+    !is_no_operation(c.command) && !c.flags.suppressed() && c.count != can
 }
 
 // Of a command that moved so many bytes of those that it could, and so many blocks, and leaves this state.

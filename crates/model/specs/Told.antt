@@ -1,10 +1,15 @@
 -- How the code tells a verdict: by a Result, whose error is a cause by its name.
 --     cause_number, Numbers   01's number of a cause; the byte that stands for it
 --     told                    the verdict that a Result tells, as the tables of Causes have it: 0 where it is Ok
+--     code_of, Listed         the code of a command; the command of a code, or cause 43
 --     outcome_of              the Result of a verdict; one that is no cause's number tells Ok
 -- Assumes nothing.
-use Rattle.std.specs.Prelude.{ℕ, ◌≡◌, Result, Ok, Err, ⊤, List, [], ◌∷◌}
-use Rattle.numbers.specs.Choice.{◌=?◌, pick}
+use Rattle.std.specs.Prelude.{ℕ, ◌≡◌, false, Result, Ok, Err, MatchResult, ⊤, List, [], ◌∷◌}
+use Rattle.numbers.specs.Choice.{◌=?◌, pick, one_of}
+use Rattle.model.specs.Names.{NO_OPERATION, DEFINE_EXTENT, LOCATE, READ, WRITE, READ_IPL, SENSE, SENSE_TYPE, READ_LOG}
+use Rattle.model.specs.Causes.{commands}
+use Rattle.model.specs.declared.command.Command.{Command}
+use Rattle.model.specs.declared.command.Command.TheVariants.{NoOperation, DefineExtent, Locate, Read, Write, ReadIpl, Sense, SenseType, ReadLog}
 use Rattle.model.specs.declared.cause.Cause.{Cause}
 use Rattle.model.specs.declared.cause.Cause.TheVariants.{BadChain, BadStore, LongStorage, ShortAnswers, AllChained, BadRecord, BadClass, BadMap, OtherFlags, NoCount, LeavesStorage, NoCommand, ShortExtent, SecondExtent, BadMask, Maintenance, OtherSize, FirstAfterLast, PastDevice, NoExtent, ShortLocate, BadModifier, BadOperation, BadCount, BadReplication, OutsideExtent, Forbidden, ReadOnly, NoAlternate, IplNotFirst, NoLocate, OtherOperation, NotListed, NotReady, PastBlocks, NotMapped}
 
@@ -62,3 +67,18 @@ outcome_in (cause ∷ causes) n = pick (cause_number cause =? n) (Err cause) (ou
 
 unfoldable pub outcome_of : ℕ → Result ⊤ Cause
 outcome_of n = outcome_in all_causes n
+
+-- the commands by name: their codes, and the command or the cause of a code
+abbrev pub code_of : Command → ℕ
+code_of NoOperation = NO_OPERATION
+code_of DefineExtent = DEFINE_EXTENT
+code_of Locate = LOCATE
+code_of Read = READ
+code_of Write = WRITE
+code_of ReadIpl = READ_IPL
+code_of Sense = SENSE
+code_of SenseType = SENSE_TYPE
+code_of ReadLog = READ_LOG
+
+abbrev pub Listed : ℕ → Result Command Cause → Type 0
+Listed code r = MatchResult r (λ command. code ≡ code_of command) (λ cause. (cause ≡ NotListed) × (one_of commands code ≡ false))

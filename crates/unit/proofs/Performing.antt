@@ -24,15 +24,16 @@ use Rattle.model.proofs.Verdicts.{first_here, first_later, first_none}
 use Rattle.model.specs.Safe.{Mounted, HasMap, OnDevice}
 use Rattle.model.proofs.Blocks.{mounted_primaries}
 use Rattle.model.proofs.Read.{table_reads}
-use Rattle.model.proofs.Steps.{early_channel, early_unit, step_early, step_performed, performed_as}
+use Rattle.model.proofs.Steps.{early_channel, early_unit, step_early, step_performed, performed_as, channel_room}
 use Rattle.std.specs.Prelude.{Err}
 use Rattle.model.specs.declared.cause.Cause.{Cause}
 use Rattle.model.specs.declared.cause.Cause.TheVariants.{NotListed, NotReady}
-use Rattle.model.specs.Told.{cause_number}
+use Rattle.model.specs.declared.command.Command.{Command}
+use Rattle.model.specs.Told.{cause_number, code_of}
 use Rattle.model.proofs.Told.{refused_told}
 use Rattle.buffered_log.specs.Counts.{counted}
 use Rattle.unit_state.specs.declared.Running.{Running}
-use Rattle.unit_state.specs.Standing.{holding, passed_on, unit_of, state_of, Sound}
+use Rattle.unit_state.specs.Standing.{holding, passed_on, unit_of, state_of, Sound, Handed}
 use Rattle.unit_state.proofs.Units.{empty, passed_on_lem}
 use Rattle.endings.specs.declared.Ended.{Ended}
 use Rattle.endings.specs.Ending.{accepted_end, refused_end, Ends}
@@ -49,6 +50,18 @@ unfolding state_of
 extent_below {dev} {s} {store} {map} h d =
     let e = (h.safe empty).extent d in
     record { order = e.order; inside = omega (arith, e.inside, mounted_primaries dev store map h.mounted) }
+
+-- what the commands ask for, of one that is listed by its name, and is not NO-OPERATION
+
+pub coded : {code : ℕ} {command name : Command} → code ≡ code_of command → command ≡ name → code ≡ code_of name
+coded e f = e ∙ ap code_of f
+
+pub handed : {dev : Device} {u : Record} {chain : List ℕ} {c : Decoded} {s : Running} {main store map : List ℕ} {k : ℕ} → Sound dev s store map → Decodes chain c → Received (command_of chain c) u main
+    → c.command ≡ k → k =? NO_OPERATION ≡ false → Handed chain c main
+handed {dev} {u} {chain} {c} {s} {main} {store} {map} {k} sound decodes seen e n = record {
+  told = decodes;
+  inside = channel_room dev (command_of chain c) (state_of (holding u map) s) main store seen.channel (λ z. eqb-false k NO_OPERATION n (sym e ∙ z));
+}
 
 -- a command that changed nothing but what the next one has before it
 passed_out : (u : UnitRecord) (s : Running) (main store : List ℕ) → no_operation (state_of u s) main store ≡ out (ended (state_of u (passed_on s)) 0 0 0) main store

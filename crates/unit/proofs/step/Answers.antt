@@ -18,24 +18,8 @@ pub returns-then-not_ready : goal.returns-then-not_ready
 returns-then-not_ready c =
     by_ready c.args.main.now c.requires.0 c.requires.1 (sym c.in_default.ensures) (sym c.not_ready.ensures ∙ c.if-not_ready.true) c.refuse-then-not_ready.ensures
 
-pub returns-then-c-eq-NO_OPERATION : goal.returns-then-c-eq-NO_OPERATION
-returns-then-c-eq-NO_OPERATION c =
-    let a = c.args in
-    let seen : Received (command_of a.chain.now a.c) a.u a.main.now
-    = record { channel = sym c.in_default.ensures; ready = sym c.not_ready.ensures ∙ c.if-not_ready.false } in
-    no_operation_ends _ c.requires.0 c.requires.1 seen c.if-c-eq-NO_OPERATION.true (rw c.passed.ensures at c.accept.ensures)
-
 pub perform-requires : goal.perform-requires
-perform-requires c =
-    let a = c.args in
-    let seen : Received (command_of a.chain.now a.c) a.u a.main.now
-    = record { channel = sym c.in_default.ensures; ready = sym c.not_ready.ensures ∙ c.if-not_ready.false } in
-    let other = c.if-c-eq-NO_OPERATION.false in (
-      c.requires.0,
-      record { told = c.requires.1; inside = channel_room a.d (command_of a.chain.now a.c) (state_of (holding a.u a.map.now) a.s) a.main.now a.store.now seen.channel other },
-      seen,
-      other,
-    )
+perform-requires c = (c.requires.0, c.requires.1, record { channel = sym c.in_default.ensures; ready = sym c.not_ready.ensures ∙ c.if-not_ready.false })
 
 pub returns : goal.returns
 returns c = c.perform.ensures
