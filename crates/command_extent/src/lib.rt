@@ -108,13 +108,11 @@ fn define_by(d: Device, blocks: usize, c: Decoded, s: Running, p: &[u8]) -> Ende
     ensures { result ≡ defined_by d blocks c s p.now }
 {
     let e = extent_in(p);
-    match define_parameters(d, blocks, e, p) {
-        Ok(()) => {
-            let t = extent_set(s, s.counts, e, Before::Other);
-            accept(c, t, sizes::EXTENT, sizes::EXTENT, 0)
-        }
-        Err(cause) => refuse_parameters(s, cause, sizes::EXTENT, [0u8; sizes::LOCATE]),
+    if let Err(cause) = define_parameters(d, blocks, e, p) {
+        return refuse_parameters(s, cause, sizes::EXTENT, [0u8; sizes::LOCATE]);
     }
+    let t = extent_set(s, s.counts, e, Before::Other);
+    accept(c, t, sizes::EXTENT, sizes::EXTENT, 0)
 }
 
 pub fn define_extent(

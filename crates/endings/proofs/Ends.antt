@@ -127,5 +127,5 @@ decided_by u w chain c decodes s main store x v o t n p r named d e b q m k f =
     (λ z. rw (← (f z)) (accepted_ends w chain c decodes s main store t n n 0 _ main store _ refl k refl refl refl))
     (λ z. rw (m z)
     (subst (λ (x : ℕ). n ≡ bytes_read x → p ≡ shown x (fetched (command_of chain c) main locate_length) → (x ≡ 0 → ⊥)
-        → Ends u (command_of chain c) s (parameters_refused s (outcome_of v) n p) main store (refused (command_of chain c) (state_of u s) main store x)) named
+    → Ends u (command_of chain c) s (parameters_refused s (outcome_of v) n p) main store (refused (command_of chain c) (state_of u s) main store x)) named
     (refused_ends u chain c decodes s main store (outcome_of v) n p _ refl) (sym (b z)) (q z) (eqb-false _ _ z))))

@@ -10,8 +10,8 @@ use model::cause::{Cause, byte_of};
 use model::command::is_no_operation;
 use model::decoded::Decoded;
 use model::kind::Kind;
-use model::status::{ChannelStatus, UnitStatus};
 use model::sizes;
+use model::status::{ChannelStatus, UnitStatus};
 use sense_table::Sense;
 use unit_state::{Left, Running, carried};
 
@@ -93,12 +93,7 @@ fn show_refusal(cause: Cause, shown: [u8; sizes::LOCATE]) -> Refusal
 
 // For what the parameters say, `read` bytes of which were read before that. `shown` are those that the cause shows: zeros, but for 39.
 // The state is the one that the command found.
-pub fn refuse_parameters(
-    s: Running,
-    cause: Cause,
-    read: usize,
-    shown: [u8; sizes::LOCATE],
-) -> Ended
+pub fn refuse_parameters(s: Running, cause: Cause, read: usize, shown: [u8; sizes::LOCATE]) -> Ended
     ensures { result ≡ parameters_refused s (Err cause) read shown }
 {
     let r = show_refusal(cause, shown);

@@ -15,9 +15,9 @@ use Rattle.command_extent.proofs.define_by.Goals as goal
 pub define_parameters-requires : goal.define_parameters-requires
 define_parameters-requires c = (c.requires, c.extent_in-e.ensures)
 
-pub returns-in-Ok : goal.returns-in-Ok
+pub returns : goal.returns
 unfolding defined_by
-returns-in-Ok c = rw (c.extent_set-t.ensures, c.extent_in-e.ensures) at c.accept.ensures ∙ sym (pick_true _ _ _ (eq-eqb _ _ (sym c.in-Ok.ensures)))
+returns c = rw (c.extent_set-t.ensures, c.extent_in-e.ensures) at c.accept.ensures ∙ sym (pick_true _ _ _ (eq-eqb _ _ (sym c.in_default.ensures)))
 
 pub returns-in-Err : goal.returns-in-Err
 unfolding defined_by zeros
