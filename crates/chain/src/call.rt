@@ -13,7 +13,7 @@ use crate::run::{Walked, run_chain};
 use model::device::Device;
 use model::record::Record;
 use record::record_left;
-use unit_state::start;
+use unit_state::Running;
 
 // A call that no cause refuses.
 pub fn run_allowed(
@@ -29,7 +29,7 @@ pub fn run_allowed(
     ensures { Allowed d u chain.now main.old store.old map.old answers.old
         result main.new store.new map.new answers.new }
 {
-    run_chain(d, chain, u, start(u), main, store, map, answers)
+    run_chain(d, chain, u, Running::start(u), main, store, map, answers)
 }
 
 // What a call gives by value.

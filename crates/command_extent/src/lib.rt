@@ -24,7 +24,7 @@ use model::extent::{Displacement, Extent, Offset};
 use model::sizes;
 use model::state::Before;
 use storage::fetch;
-use unit_state::{Running, extent_set};
+use unit_state::Running;
 
 // Mask bits 0-1 are 10, or one of bits 2, 3, 6, 7 is one, or byte 1 is not zero.
 fn mask_wrong(mask: u8, reserved: u8) -> bool
@@ -111,7 +111,7 @@ fn define_by(d: Device, blocks: usize, c: Decoded, s: Running, p: &[u8]) -> Ende
     if let Err(cause) = define_parameters(d, blocks, e, p) {
         return refuse_parameters(s, cause, sizes::EXTENT, [0u8; sizes::LOCATE]);
     }
-    let t = extent_set(s, s.counts, e, Before::Other);
+    let t = s.extent_set(s.counts, e, Before::Other);
     accept(c, t, sizes::EXTENT, sizes::EXTENT, 0)
 }
 

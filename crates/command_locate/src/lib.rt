@@ -26,7 +26,7 @@ use model::extent::{Displacement, Extent, Located};
 use model::record::Record;
 use model::{operation, sizes};
 use storage::fetch;
-use unit_state::{Running, locate_set};
+use unit_state::Running;
 
 // One of modifier bits 0 to 2 is one. Bit 3 is not used.
 fn modifier_wrong(byte: u8) -> bool
@@ -236,7 +236,7 @@ fn locate_by(d: Device, u: Record, c: Decoded, s: Running, map: &mut [u8], p: &[
     }
     let l = located_in(p);
     leave_map(d, s.extent, l, map);
-    let t = locate_set(s, movement_counted(s.counts), l);
+    let t = s.locate_set(movement_counted(s.counts), l);
     accept(c, t, sizes::LOCATE, sizes::LOCATE, 0)
 }
 

@@ -18,7 +18,7 @@ use model::record::{Counts, Record};
 use model::state::Before;
 use slices::least;
 use storage::deliver;
-use unit_state::{Running, after, sense_now};
+use unit_state::{Running, sense_now};
 
 // A command that can move all of these bytes: as many as its count asks for go to its data area. It leaves these counts, and no sense.
 fn send(chain: &[u8], c: Decoded, s: Running, main: &mut [u8], bytes: &[u8], k: Counts) -> Ended
@@ -28,7 +28,7 @@ fn send(chain: &[u8], c: Decoded, s: Running, main: &mut [u8], bytes: &[u8], k: 
 {
     let n = least(c.count, bytes.len());
     deliver(chain, c.area, main, bytes, n);
-    accept(c, after(s, k, Before::Other), n, bytes.len(), 0)
+    accept(c, s.after(k, Before::Other), n, bytes.len(), 0)
 }
 
 pub fn sense(u: Record, chain: &[u8], c: Decoded, s: Running, main: &mut [u8]) -> Ended

@@ -24,7 +24,7 @@ use model::operation;
 use model::record::Counts;
 use model::state::Before;
 use slices::least;
-use unit_state::{Running, after, extent_set};
+use unit_state::Running;
 
 // Directly before stood an accepted LOCATE.
 fn after_locate(before: Before) -> bool
@@ -92,7 +92,7 @@ fn read_done(d: Device, c: Decoded, s: Running, m: Move) -> Ended
     ensures { result ≡ read_end d c s m }
 {
     let blocks = begun(d, m.n);
-    let t = after(s, read_counted(blocks, s.counts), Before::Other);
+    let t = s.after(read_counted(blocks, s.counts), Before::Other);
     accept(c, t, m.n, m.can, blocks)
 }
 
@@ -135,7 +135,7 @@ fn write_done(d: Device, c: Decoded, s: Running, m: Move) -> Ended
 {
     let l = s.located;
     let blocks = l.blocks as usize;
-    let t = after(s, written(l.operation, blocks, s.counts), Before::Other);
+    let t = s.after(written(l.operation, blocks, s.counts), Before::Other);
     accept(c, t, m.n, m.can, begun(d, m.n))
 }
 
@@ -179,7 +179,7 @@ fn ipl_done(d: Device, c: Decoded, s: Running, n: usize, blocks: usize) -> Ended
     ensures { result ≡ ipl_end d c s n blocks }
 {
     let k = movement_counted(read_counted(1, s.counts));
-    let t = extent_set(s, k, whole_device(blocks), Before::ReadIpl);
+    let t = s.extent_set(k, whole_device(blocks), Before::ReadIpl);
     accept(c, t, n, d.block, 1)
 }
 

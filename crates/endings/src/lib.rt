@@ -13,7 +13,7 @@ use model::kind::Kind;
 use model::sizes;
 use model::status::{ChannelStatus, UnitStatus};
 use sense_table::Sense;
-use unit_state::{Left, Running, carried};
+use unit_state::{Left, Running};
 
 // Its bytes as two numbers: unit status, channel status, residual count (2), which is 0 until the pieces reached are known; cause, zero,
 // blocks moved (2).
@@ -60,7 +60,7 @@ pub fn accept(c: Decoded, s: Running, moved: usize, can: usize, blocks: usize) -
     let kind = Kind::Accepted;
     Ended {
         left: Left {
-            state: carried(s),
+            state: s.carried(),
             sense: Sense::none(),
             kind,
         },
@@ -99,7 +99,7 @@ pub fn refuse_parameters(s: Running, cause: Cause, read: usize, shown: [u8; size
     let r = show_refusal(cause, shown);
     Ended {
         left: Left {
-            state: carried(s),
+            state: s.carried(),
             sense: r.sense,
             kind: r.kind,
         },

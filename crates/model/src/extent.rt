@@ -3,14 +3,14 @@ ghost use Rattle.std.specs.Prelude.{◌≡◌, ◌≤◌};
 ghost use Rattle.model.specs.Parameters.{address};
 
 // Counts from the device's first block.
-#[derive(Clone, Copy)]
+#[derive(Clone, Copy, Default)]
 pub struct Offset(pub u32);
 
 // Counts from the data set's first block.
-#[derive(Clone, Copy)]
+#[derive(Clone, Copy, Default)]
 pub struct Displacement(pub u32);
 
-#[derive(Clone, Copy)]
+#[derive(Clone, Copy, Default)]
 pub struct Extent {
     pub mask: u32,
     pub offset: Offset,
@@ -29,7 +29,7 @@ impl Extent {
     }
 }
 
-#[derive(Clone, Copy)]
+#[derive(Clone, Copy, Default)]
 pub struct Located {
     pub operation: u32,
     pub displacement: Displacement,

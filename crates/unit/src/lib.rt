@@ -22,7 +22,7 @@ use model::command::Command;
 use model::decoded::Decoded;
 use model::device::Device;
 use model::record::Record;
-use unit_state::{Running, passed};
+use unit_state::Running;
 
 // What a unit answers that is not ready.
 #[tactic(auto, unfolding(numbers::specs::Choice::one_of))]
@@ -56,7 +56,7 @@ fn perform(
     ensures { Ends (holding u map.new) (command_of chain.now c) s result main.new store.new (step d (command_of chain.now c) (state_of (holding u map.old) s) main.old store.old) }
 {
     match Command::try_from(c.command) {
-        Ok(Command::NoOperation) => accept(c, passed(s), 0, 0, 0),
+        Ok(Command::NoOperation) => accept(c, s.passed(), 0, 0, 0),
         Ok(Command::DefineExtent) => define_extent(d, chain, c, s, main, store),
         Ok(Command::Locate) => locate(d, u, chain, c, s, main, map),
         Ok(Command::Read) => read(d, chain, c, s, main, store, map),
