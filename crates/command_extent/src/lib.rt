@@ -57,8 +57,8 @@ fn size_wrong(d: Device, size: usize) -> bool
     size != d.block
 }
 
-fn extent_in(p: &[u8]) -> Extent
-    requires { length p.now ≡ extent_length }
+#[tactic(auto, unfolding(model::specs::Parameters::extent_in))]
+fn extent_in(p: &[u8; sizes::EXTENT]) -> Extent
     ensures { result ≡ extent_in p.now }
 {
     Extent {
@@ -80,8 +80,13 @@ fn past_device(e: Extent, blocks: usize) -> bool
 }
 
 // The sixteen bytes, which say extent e, on this device, of so many blocks.
-fn define_parameters(d: Device, blocks: usize, e: Extent, p: &[u8]) -> Result<(), Cause>
-    requires { (length p.now ≡ extent_length) × (e ≡ extent_in p.now) }
+fn define_parameters(
+    d: Device,
+    blocks: usize,
+    e: Extent,
+    p: &[u8; sizes::EXTENT],
+) -> Result<(), Cause>
+    requires { e ≡ extent_in p.now }
     ensures { told result ≡ first_of (extent_causes d blocks p.now) }
 {
     if mask_wrong(p[0], p[1]) {
@@ -103,8 +108,7 @@ fn define_parameters(d: Device, blocks: usize, e: Extent, p: &[u8]) -> Result<()
 }
 
 // The command by its sixteen bytes.
-fn define_by(d: Device, blocks: usize, c: Decoded, s: Running, p: &[u8]) -> Ended
-    requires { length p.now ≡ extent_length }
+fn define_by(d: Device, blocks: usize, c: Decoded, s: Running, p: &[u8; sizes::EXTENT]) -> Ended
     ensures { result ≡ defined_by d blocks c s p.now }
 {
     let e = extent_in(p);

@@ -1,19 +1,15 @@
 -- What the code tests, and the rule's own words for it. No contract cites this file.
 use Prim.Native.Nat.{ℕ, ◌-◌, ◌/◌, ◌^◌, ◌≤◌, ◌<◌}
-use mathlib.Core.Path.{◌≡◌, sym, ap, subst, ◌∙◌}
+use mathlib.Core.Path.{◌≡◌, sym, ap, ◌∙◌}
 use mathlib.Core.Bool.{Bool, true, not, ◌&&◌, ◌||◌}
 use lib.Bits.{bit_and, and_mask}
-use lib.Dec.{T, leb, eqb, lit≤}
+use lib.Dec.{eqb}
 use native.Mathlib.Omega.{arith}
 use borrow.Author.Tests.{eq-eqb, ne_eqb}
 use Rattle.numbers.specs.Bits.{bit}
 use Rattle.numbers.specs.Choice.{one_of}
 use Rattle.model.specs.Parameters.{operations}
 use Rattle.model.proofs.Steps.{one_of_lem, none_of}
-
--- eight bytes reach as far
-pub eight : {k n : ℕ} → n ≡ 8 → T (leb k 8) → k ≤ n
-eight {k} e t = subst (λ (m : ℕ). k ≤ m) (sym e) (lit≤ t)
 
 -- the code of an operation is below 7
 pub operation_low : (o : ℕ) → one_of operations o ≡ true → o < 7

@@ -35,8 +35,7 @@ fn modifier_wrong(byte: u8) -> bool
     byte & 0xE0 != 0
 }
 
-fn located_in(p: &[u8]) -> Located
-    requires { length p.now ≡ locate_length }
+fn located_in(p: &[u8; sizes::LOCATE]) -> Located
     ensures { (result ≡ located_in p.now) × (result.operation < 16) × (result.blocks < 65536) }
 {
     Located {
@@ -47,17 +46,18 @@ fn located_in(p: &[u8]) -> Located
 }
 
 // One of the five.
+#[tactic(auto, unfolding(numbers::specs::Choice::one_of))]
 fn is_operation(code: u32) -> bool
     ensures { result ≡ one_of operations code }
 {
-    match code {
-        operation::WRITE_DATA => true,
-        operation::READ_REPLICATED => true,
-        operation::FORMAT => true,
-        operation::WRITE_CHECK => true,
-        operation::READ_DATA => true,
-        _ => false,
-    }
+    matches!(
+        code,
+        operation::FORMAT
+            | operation::WRITE_DATA
+            | operation::WRITE_CHECK
+            | operation::READ_DATA
+            | operation::READ_REPLICATED
+    )
 }
 
 // No block, or a format of other than one.
@@ -179,12 +179,18 @@ fn permit(d: Device, u: Record, s: Running, map: &[u8], l: Located, n: usize) ->
 }
 
 // The eight bytes, under the extent and on the unit of this state, with this map.
-fn locate_parameters(d: Device, u: Record, s: Running, map: &[u8], p: &[u8]) -> Result<(), Cause>
-    requires { (length p.now ≡ locate_length) × HasMap d map.now }
+fn locate_parameters(
+    d: Device,
+    u: Record,
+    s: Running,
+    map: &[u8],
+    p: &[u8; sizes::LOCATE],
+) -> Result<(), Cause>
+    requires { HasMap d map.now }
     ensures { told result ≡ first_of (location_causes d (state_of (holding u map.now) s) p.now) }
 {
     let l = located_in(p);
-    let replication = numbers::wide(p[1]);
+    let replication = usize::from(p[1]);
     if modifier_wrong(p[0]) {
         return Err(Cause::BadModifier);
     }
@@ -202,15 +208,13 @@ fn locate_parameters(d: Device, u: Record, s: Running, map: &[u8], p: &[u8]) -> 
 }
 
 // The parameters that a cause shows: the LOCATE's eight bytes with 39, else zeros.
-fn shown_by(cause: Cause, p: &[u8]) -> [u8; sizes::LOCATE]
-    requires { length p.now ≡ locate_length }
+fn shown_by(cause: Cause, p: &[u8; sizes::LOCATE]) -> [u8; sizes::LOCATE]
     ensures { result ≡ shown (cause_number cause) p.now }
 {
-    let mut shown = [0u8; sizes::LOCATE];
-    if let Cause::NoAlternate = cause {
-        slices::copy(p, &mut shown, sizes::LOCATE);
+    match cause {
+        Cause::NoAlternate => *p,
+        _ => [0u8; sizes::LOCATE],
     }
-    shown
 }
 
 // The map is as the LOCATE leaves it: another one after a format.
@@ -226,8 +230,15 @@ fn leave_map(d: Device, e: Extent, l: Located, map: &mut [u8])
 }
 
 // The command by its eight bytes.
-fn locate_by(d: Device, u: Record, c: Decoded, s: Running, map: &mut [u8], p: &[u8]) -> Ended
-    requires { (length p.now ≡ locate_length) × HasMap d map.old × OnDevice s.extent 131072 }
+fn locate_by(
+    d: Device,
+    u: Record,
+    c: Decoded,
+    s: Running,
+    map: &mut [u8],
+    p: &[u8; sizes::LOCATE],
+) -> Ended
+    requires { HasMap d map.old × OnDevice s.extent 131072 }
     ensures ended { result ≡ located_by d (holding u map.old) c s p.now }
     ensures left { map.new ≡ map_left d (holding u map.old) s p.now }
 {

@@ -12,20 +12,16 @@ pub const READ_DATA: u32 = 6;
 
 pub const READ_REPLICATED: u32 = 2;
 
+#[tactic(auto, unfolding(numbers::specs::Choice::one_of))]
 pub fn reads(code: u32) -> bool
     ensures { result ≡ reads code }
 {
-    if code == READ_DATA {
-        return true;
-    }
-    code == READ_REPLICATED
+    matches!(code, READ_DATA | READ_REPLICATED)
 }
 
+#[tactic(auto, unfolding(numbers::specs::Choice::one_of))]
 pub fn writes(code: u32) -> bool
     ensures { result ≡ writes code }
 {
-    if code == WRITE_DATA {
-        return true;
-    }
-    code == WRITE_CHECK
+    matches!(code, WRITE_DATA | WRITE_CHECK)
 }

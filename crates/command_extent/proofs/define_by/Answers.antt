@@ -13,7 +13,7 @@ use Rattle.command_extent.specs.Answers.{defined_by}
 use Rattle.command_extent.proofs.define_by.Goals as goal
 
 pub define_parameters-requires : goal.define_parameters-requires
-define_parameters-requires c = (c.requires, c.extent_in-e.ensures)
+define_parameters-requires c = c.extent_in-e.ensures
 
 pub returns : goal.returns
 unfolding defined_by

@@ -9,7 +9,6 @@ use Rattle.model.specs.declared.extent.Extent.{Extent}
 use Rattle.model.specs.Parameters.{extent_in, reserved_in, size_in}
 use Rattle.model.specs.Causes.{past_device, extent_causes}
 use Rattle.model.proofs.Verdicts.{first_here, first_later, first_none}
-use Rattle.command_extent.proofs.Tests.{sixteen}
 use Rattle.command_extent.proofs.define_parameters.Goals as goal
 
 -- the last two lines are of the extent that the caller took from these bytes
@@ -20,27 +19,15 @@ module _ (e : Extent) (p : List ℕ) (same : e ≡ extent_in p) where
   device_line : (blocks : ℕ) (b : Bool) → past_device e blocks ≡ b → past_device (extent_in p) blocks ≡ b
   device_line blocks b h = rw same at h
 
-pub bounds-p-0 : goal.bounds-p-0
-bounds-p-0 c = sixteen c.requires.0 tt
-
-pub bounds-p-1 : goal.bounds-p-1
-bounds-p-1 c = sixteen c.requires.0 tt
-
 pub returns-then-mask_wrong : goal.returns-then-mask_wrong
 unfolding extent_causes extent_in reserved_in
 returns-then-mask_wrong c = sym (first_here _ _ (sym c.mask_wrong.ensures ∙ c.if-mask_wrong.true))
-
-pub bounds-p-0-2 : goal.bounds-p-0-2
-bounds-p-0-2 c = sixteen c.requires.0 tt
 
 pub returns-then-maintenance : goal.returns-then-maintenance
 unfolding extent_causes extent_in reserved_in
 returns-then-maintenance c = sym (
     first_later _ _ (sym c.mask_wrong.ensures ∙ c.if-mask_wrong.false)
     ∙ first_here _ _ (sym c.maintenance.ensures ∙ c.if-maintenance.true))
-
-pub be2-requires : goal.be2-requires
-be2-requires c = sixteen c.requires.0 tt
 
 pub returns-then-size_wrong : goal.returns-then-size_wrong
 unfolding extent_causes extent_in reserved_in size_in
@@ -55,7 +42,7 @@ returns-then-e c = sym (
     first_later _ _ (sym c.mask_wrong.ensures ∙ c.if-mask_wrong.false)
     ∙ first_later _ _ (sym c.maintenance.ensures ∙ c.if-maintenance.false)
     ∙ first_later _ _ (rw (← c.be2.ensures.0) (sym c.size_wrong.ensures) ∙ c.if-size_wrong.false)
-    ∙ first_here _ _ (order_line c.args.e c.args.p.now c.requires.1 _ (lt-ltb _ _ c.if-e.true)))
+    ∙ first_here _ _ (order_line c.args.e c.args.p.now c.requires _ (lt-ltb _ _ c.if-e.true)))
 
 pub past_device-requires : goal.past_device-requires
 past_device-requires c = c.if-e.false
@@ -66,8 +53,8 @@ returns-then-past_device c = sym (
     first_later _ _ (sym c.mask_wrong.ensures ∙ c.if-mask_wrong.false)
     ∙ first_later _ _ (sym c.maintenance.ensures ∙ c.if-maintenance.false)
     ∙ first_later _ _ (rw (← c.be2.ensures.0) (sym c.size_wrong.ensures) ∙ c.if-size_wrong.false)
-    ∙ first_later _ _ (order_line c.args.e c.args.p.now c.requires.1 _ (le-ltb _ _ c.if-e.false))
-    ∙ first_here _ _ (device_line c.args.e c.args.p.now c.requires.1 _ _ (sym c.past_device.ensures ∙ c.if-past_device.true)))
+    ∙ first_later _ _ (order_line c.args.e c.args.p.now c.requires _ (le-ltb _ _ c.if-e.false))
+    ∙ first_here _ _ (device_line c.args.e c.args.p.now c.requires _ _ (sym c.past_device.ensures ∙ c.if-past_device.true)))
 
 pub returns : goal.returns
 unfolding extent_causes extent_in reserved_in size_in
@@ -75,6 +62,6 @@ returns c = sym (
     first_later _ _ (sym c.mask_wrong.ensures ∙ c.if-mask_wrong.false)
     ∙ first_later _ _ (sym c.maintenance.ensures ∙ c.if-maintenance.false)
     ∙ first_later _ _ (rw (← c.be2.ensures.0) (sym c.size_wrong.ensures) ∙ c.if-size_wrong.false)
-    ∙ first_later _ _ (order_line c.args.e c.args.p.now c.requires.1 _ (le-ltb _ _ c.if-e.false))
-    ∙ first_later _ _ (device_line c.args.e c.args.p.now c.requires.1 _ _ (sym c.past_device.ensures ∙ c.if-past_device.false))
+    ∙ first_later _ _ (order_line c.args.e c.args.p.now c.requires _ (le-ltb _ _ c.if-e.false))
+    ∙ first_later _ _ (device_line c.args.e c.args.p.now c.requires _ _ (sym c.past_device.ensures ∙ c.if-past_device.false))
     ∙ first_none)

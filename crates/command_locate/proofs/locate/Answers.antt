@@ -35,7 +35,7 @@ fetch-requires c =
 
 pub locate_by-requires : goal.locate_by-requires
 locate_by-requires c =
-    (search rules, c.requires.2, c.requires.3 (not-false _ c.if-not-s.false))
+    (c.requires.2, c.requires.3 (not-false _ c.if-not-s.false))
 
 pub returns : goal.returns
 unfolding zeros

@@ -30,12 +30,6 @@ failed : (dev : Device) (s : State) (p : List ℕ) → first_of (location_causes
 unfolding location_causes permission_causes
 failed dev s p none = failed_all 0 _ refl none
 
-pub locate_parameters-requires : goal.locate_parameters-requires
-locate_parameters-requires c = (c.requires.0, c.requires.1)
-
-pub shown_by-requires : goal.shown_by-requires
-shown_by-requires c = c.requires.0
-
 pub returns-in-Err : goal.returns-in-Err
 unfolding located_by map_left
 returns-in-Err c =
@@ -50,9 +44,6 @@ returns-in-Err c =
       left = sym (pick_false _ _ _ (refusal_given _ _ given));
     }
 
-pub located_in-l-requires : goal.located_in-l-requires
-located_in-l-requires c = c.requires.0
-
 pub leave_map-requires : goal.leave_map-requires
 unfolding state_of
 leave_map-requires c =
@@ -60,7 +51,7 @@ leave_map-requires c =
     let l = c.located_in-l.ensures.0 in
     let s : State = state_of (holding a.u a.map.now) a.s in
     let f = failed a.d s a.p.now (sym c.in_default.ensures) in
-    (c.requires.1, rw l (location_ok a.d s a.p.now f), c.requires.2, λ e. location_takes a.d s a.p.now f (eq-eqb _ _ (rw l at e)))
+    (c.requires.0, rw l (location_ok a.d s a.p.now f), c.requires.1, λ e. location_takes a.d s a.p.now f (eq-eqb _ _ (rw l at e)))
 
 pub returns : goal.returns
 unfolding located_by map_left

@@ -3,20 +3,10 @@ use lib.Bits.{and_mask, mask_lt}
 use lib.ListN.{get_or}
 use borrow.Author.Rules.{Fits-under}
 use Rattle.model.specs.Parameters.{located_in}
-use Rattle.command_locate.proofs.Tests.{eight}
 use Rattle.command_locate.proofs.located_in.Goals as goal
-
-pub bounds-p-0 : goal.bounds-p-0
-bounds-p-0 c = eight c.requires tt
 
 pub overflow_cast-result : goal.overflow_cast-result
 overflow_cast-result c = Fits-under _ _ 16 (mask_lt (get_or c.args.p.now 0 0) 4) tt
-
-pub be4-requires : goal.be4-requires
-be4-requires c = eight c.requires tt
-
-pub be2-requires : goal.be2-requires
-be2-requires c = eight c.requires tt
 
 pub overflow_cast-result-2 : goal.overflow_cast-result-2
 overflow_cast-result-2 c = Fits-under _ _ 65536 c.be2.ensures.1 tt
