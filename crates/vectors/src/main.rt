@@ -39,44 +39,30 @@ mod play;
 mod senses;
 mod show;
 mod transfers;
-mod words;
+mod vector;
 
 use std::io;
 
 fn main(rt: HostRuntime) -> io::Result<()> {
-    play::group(&rt, 1, b"The call: causes 1 to 5", &calls::VECTORS)?;
-    play::group(
-        &rt,
-        2,
-        b"Program checks: causes 13, 10, 11 and 12",
-        &checks::VECTORS,
-    )?;
-    play::group(
-        &rt,
-        3,
-        b"Ready, and listed: causes 44 and 43",
-        &listed::VECTORS,
-    )?;
-    play::group(&rt, 4, b"DEFINE EXTENT: causes 20 to 26", &extents::VECTORS)?;
-    play::group(&rt, 5, b"LOCATE: causes 30 to 39", &locates::VECTORS)?;
-    play::group(
-        &rt,
-        6,
-        b"READ IPL, READ and WRITE: causes 40 to 42",
-        &transfers::VECTORS,
-    )?;
-    play::group(&rt, 7, b"SENSE, SENSE TYPE and the log", &senses::VECTORS)?;
-    play::group(
-        &rt,
-        8,
-        b"Data chaining: commands in pieces",
-        &pieces::VECTORS,
-    )?;
-    play::large_group(
-        &rt,
-        9,
-        b"Alternates for defective blocks: causes 2, 8, 39 and 42",
-        &alternate_blocks::VECTORS,
-    )?;
+    let groups: [(&str, &[u64]); 9] = [
+        ("The call: causes 1 to 5", &calls::VECTORS),
+        ("Program checks: causes 13, 10, 11 and 12", &checks::VECTORS),
+        ("Ready, and listed: causes 44 and 43", &listed::VECTORS),
+        ("DEFINE EXTENT: causes 20 to 26", &extents::VECTORS),
+        ("LOCATE: causes 30 to 39", &locates::VECTORS),
+        (
+            "READ IPL, READ and WRITE: causes 40 to 42",
+            &transfers::VECTORS,
+        ),
+        ("SENSE, SENSE TYPE and the log", &senses::VECTORS),
+        ("Data chaining: commands in pieces", &pieces::VECTORS),
+        (
+            "Alternates for defective blocks: causes 2, 8, 39 and 42",
+            &alternate_blocks::VECTORS,
+        ),
+    ];
+    for (n, (title, table)) in (1u64..).zip(groups) {
+        play::group(&rt, n, title, table)?;
+    }
     Ok(())
 }

@@ -1,336 +1,171 @@
 // One vector after the other: its buffers are laid out, its chain is run, and its line is printed.
 // The way in is `group`.
-ghost use Rattle.std.specs.Prelude.{◌≤◌, ◌<◌};
-
-use crate::words::{Device, Vector};
-use crate::{show, words};
-use in_place::Ran;
+use crate::show::{Answer, Counts, Hex};
+use crate::vector::{Place, Setting, Vector, Vectors, What};
 use model::record::{Record, UnitRecord};
 use model::sizes;
-use record::{same_count, same_sense};
 use std::io::{self, Print};
 
-// The settings of a vector, each a bit; three bits more say which store and device (`words::Device`).
-const NOT_READY: u64 = 0x01;
-
-const READ_ONLY: u64 = 0x02;
-
-const KEPT: u64 = 0x04;
-
-const NEARLY_FULL: u64 = 0x08;
-
-const YES_IS_80: u64 = 0x40;
-
-// What every buffer byte is before the run, where nothing else is said.
-const STORAGE_BYTE: u8 = 0xFF;
-
-const ANSWER_BYTE: u8 = 0xAA;
-
-// The longest that each buffer is: a chain, and its answers, of one CCW more than a chain may have; a store of eight blocks, or of 66.
+// The longest that each buffer is: a chain, and its answers, of one CCW more than a chain may have; a store of
+// 66 blocks, though most vectors have one of 8.
 const CHAIN: usize = sizes::CHAIN_LIMIT + sizes::CCW;
 
 const STORAGE: usize = 1088;
 
-const STORE: usize = 8 * sizes::BLOCK;
+const STORE: usize = 66 * sizes::BLOCK;
 
-const LARGE_STORE: usize = 66 * sizes::BLOCK;
+// What every byte of main storage and of the answers is before the run, where nothing else is said.
+const STORAGE_BYTE: u8 = 0xFF;
 
-// The map's bytes.
-const MAP: usize = 256;
+const ANSWER_BYTE: u8 = 0xAA;
 
-// A vector's number in print.
-#[derive(Clone, Copy)]
-pub struct Id {
-    pub group: u64,
-    pub number: u64,
-}
-
-fn has(setting: u64, bit: u64) -> bool
-    requires { 0 < bit }
-{
-    setting / bit % 2 == 1
-}
-
-fn least(a: usize, b: usize) -> usize
-    ensures { (result ≤ a) × (result ≤ b) }
-{
-    if a < b { a } else { b }
-}
-
-// A yes or no of the record.
-fn yes_or_no(yes: bool, setting: u64) -> u8 {
-    if yes {
-        if has(setting, YES_IS_80) { 0x80 } else { 1 }
-    } else {
-        0
-    }
-}
-
-// A record whose three counts are one short of their largest values.
-fn nearly_full(unit: Record) -> Record {
-    let mut worn = unit;
-    worn.blocks_read = [255, 255, 254];
-    worn.blocks_written = [255, 255, 254];
-    worn.movements = [255, 254];
-    worn
-}
-
-// A new unit as the setting has it, but for the map.
-fn unmapped(setting: u64) -> Record {
-    let ready = yes_or_no(!has(setting, NOT_READY), setting);
-    let read_only = yes_or_no(has(setting, READ_ONLY), setting);
-    let unit = record::new_record(ready, read_only);
-    if has(setting, NEARLY_FULL) {
-        nearly_full(unit)
-    } else {
-        unit
-    }
+// The unit, and what is lent to it.
+#[derive(Drop)]
+struct Bench {
+    unit: UnitRecord,
+    chain: [u8; CHAIN],
+    storage: [u8; STORAGE],
+    store: [u8; STORE],
+    answers: [u8; CHAIN],
 }
 
 // A new unit as the setting has it, with no entry of its map in use.
-fn fresh(setting: u64) -> UnitRecord {
+fn new_unit(setting: Setting) -> UnitRecord {
+    let ready = if setting.ready { setting.yes } else { 0 };
+    let read_only = if setting.read_only { setting.yes } else { 0 };
+    let mut unit = record::new_record(ready, read_only);
+    if setting.nearly_full {
+        unit.blocks_read = [255, 255, 254];
+        unit.blocks_written = [255, 255, 254];
+        unit.movements = [255, 254];
+    }
     UnitRecord {
-        unit: unmapped(setting),
-        map: [0; MAP],
-    }
-}
-
-// The record that the vector starts from, but for its own words of the map: the one before it left, or a new one.
-fn start(left: UnitRecord, setting: u64) -> UnitRecord {
-    if has(setting, KEPT) {
-        left
-    } else {
-        fresh(setting)
-    }
-}
-
-// Puts the vector's own words of the map where they go.
-fn enter(map: &mut [u8], d: Device, table: &[u64]) {
-    let from = least(d.map_from, map.len());
-    words::put(&mut map[from..], table, d.map_at, d.map_words);
-}
-
-// The record with the vector's own words of the map.
-fn entered(left: UnitRecord, d: Device, table: &[u64]) -> UnitRecord {
-    let unit = left.unit;
-    let mut map = left.map;
-    enter(&mut map, d, table);
-    UnitRecord {
-        unit: unit,
-        map: map,
-    }
-}
-
-// A new main storage and store, unless the setting keeps those that the vector before left.
-fn renew(setting: u64, storage: &mut [u8], store: &mut [u8]) {
-    if has(setting, KEPT) {
-        return;
-    }
-    words::fill(storage, STORAGE_BYTE);
-    words::number_blocks(store);
-}
-
-// Lays out the buffers. Chain words past the vector's own are not lent.
-fn lay(
-    v: Vector,
-    table: &[u64],
-    chain: &mut [u8],
-    storage: &mut [u8],
-    store: &mut [u8],
-    answers: &mut [u8],
-) {
-    renew(v.setting, storage, store);
-    words::put(storage, table, v.storage_at, v.storage_words);
-    words::put(chain, table, v.chain_at, CHAIN / sizes::CCW);
-    words::fill(answers, ANSWER_BYTE);
-}
-
-// Lends the buffers, each as long as the vector has it, to the library.
-fn run(
-    unit: UnitRecord,
-    v: Vector,
-    chain: &[u8],
-    storage: &mut [u8],
-    store: &mut [u8],
-    answers: &mut [u8],
-) -> Ran {
-    let c = least(v.chain, chain.len());
-    let m = least(v.storage, storage.len());
-    let d = v.device;
-    let s = least(d.store, store.len());
-    let a = least(v.answers, answers.len());
-    in_place::run_lending(
         unit,
-        &chain[0..c],
-        &mut storage[0..m],
-        &mut store[0..s],
-        d.alternates,
-        &mut answers[0..a],
-    )
+        map: [0; sizes::MAP],
+    }
 }
 
-// The places that the n words from `from` on name, each after the other.
-fn shows<P: Print>(
-    out: &P,
-    from: usize,
-    n: usize,
-    table: &[u64],
-    unit: UnitRecord,
-    storage: &[u8],
-    store: &[u8],
-    answers: &[u8],
-) -> io::Result<()> {
-    let mut k = 0;
-    while k < n {
-        show::shown(
-            out,
-            words::word(table, from, k),
-            unit,
-            storage,
-            store,
-            answers,
-        )?;
-        k += 1;
+// Puts the words into `to`, from its word `from` on, as far as it reaches.
+fn put(words: &[u64], to: &mut [u8], from: usize) {
+    let (places, _) = to.as_chunks_mut::<8>();
+    for (place, word) in places.iter_mut().skip(from).zip(words) {
+        *place = word.to_be_bytes();
     }
-    show::text(out, b"\n")?;
-    Ok(())
+}
+
+// The n bytes from `from` on, or those that there are.
+fn part(bytes: &[u8], from: usize, n: usize) -> &[u8] {
+    let rest = &bytes[from.min(bytes.len())..];
+    &rest[..n.min(rest.len())]
+}
+
+// The first n bytes, or those that there are, to be written.
+fn first(bytes: &mut [u8], n: usize) -> &mut [u8] {
+    let n = n.min(bytes.len());
+    &mut bytes[..n]
 }
 
 // Whether a run left sense and the count of blocks read as they were.
-fn kept(before: Record, after: Record) -> bool {
-    let sense = before.sense;
-    let left = after.sense;
-    if !same_sense(sense, left) {
-        return false;
+fn is_kept(before: &Record, after: &Record) -> bool {
+    before.sense == after.sense && before.blocks_read == after.blocks_read
+}
+
+impl Bench {
+    fn new() -> Bench {
+        Bench {
+            unit: new_unit(Setting::from(0)),
+            chain: [0; CHAIN],
+            storage: [0; STORAGE],
+            store: [0; STORE],
+            answers: [0; CHAIN],
+        }
     }
-    let read = before.blocks_read;
-    let more = after.blocks_read;
-    same_count(read, more)
-}
 
-// The vector's line.
-fn tell<P: Print>(
-    out: &P,
-    id: Id,
-    v: Vector,
-    table: &[u64],
-    before: UnitRecord,
-    ran: Ran,
-    storage: &[u8],
-    store: &[u8],
-    answers: &[u8],
-) -> io::Result<()> {
-    show::decimal(out, id.group)?;
-    show::labelled(out, b".", id.number)?;
-    show::line(out, ran, answers)?;
-    let unit = ran.unit;
-    show::refused(out, ran.code, kept(before.unit, unit.unit))?;
-    shows(
-        out, v.shows_at, v.shows, table, unit, storage, store, answers,
-    )?;
-    Ok(())
-}
+    // A new unit, main storage and store. Block n is filled with byte n.
+    fn renew(&mut self, setting: Setting) {
+        self.unit = new_unit(setting);
+        self.storage.fill(STORAGE_BYTE);
+        for (n, block) in (0u8..).zip(self.store.chunks_mut(sizes::BLOCK)) {
+            block.fill(n);
+        }
+    }
 
-// Runs one vector on this record.
-fn played(
-    v: Vector,
-    table: &[u64],
-    unit: UnitRecord,
-    chain: &mut [u8],
-    storage: &mut [u8],
-    store: &mut [u8],
-    answers: &mut [u8],
-) -> Ran {
-    lay(v, table, chain, storage, store, answers);
-    run(unit, v, chain, storage, store, answers)
-}
+    // Lays out the unit and the buffers as the vector has them. Chain bytes past its own are not lent.
+    fn lay(&mut self, vector: &Vector) {
+        if !vector.setting.kept {
+            self.renew(vector.setting);
+        }
+        let device = vector.device;
+        put(device.map, &mut self.unit.map, device.map_from);
+        put(vector.storage, &mut self.storage, 0);
+        put(vector.chain, &mut self.chain, 0);
+        self.answers.fill(ANSWER_BYTE);
+    }
 
-// Runs one vector and prints its line; `left` is the record that the one before it left. It returns the record that the vector leaves.
-fn one<P: Print>(
-    out: &P,
-    id: Id,
-    v: Vector,
-    table: &[u64],
-    left: UnitRecord,
-    chain: &mut [u8],
-    storage: &mut [u8],
-    store: &mut [u8],
-    answers: &mut [u8],
-) -> io::Result<UnitRecord> {
-    let before = entered(start(left, v.setting), v.device, table);
-    let ran = played(v, table, before, chain, storage, store, answers);
-    tell(out, id, v, table, before, ran, storage, store, answers)?;
-    Ok(ran.unit)
-}
+    // Lends the buffers, each as long as the vector has it. The result is 256 times the cause plus the commands
+    // reached.
+    fn run(&mut self, vector: &Vector) -> u32 {
+        in_place::run(
+            &mut self.unit,
+            part(&self.chain, 0, vector.chain_len),
+            first(&mut self.storage, vector.storage_len),
+            first(&mut self.store, vector.device.store_len),
+            vector.device.alternates,
+            first(&mut self.answers, vector.answers_len),
+        )
+    }
 
-// A line for each vector of the table.
-fn turns<P: Print>(
-    out: &P,
-    group: u64,
-    table: &[u64],
-    chain: &mut [u8],
-    storage: &mut [u8],
-    store: &mut [u8],
-    answers: &mut [u8],
-) -> io::Result<()> {
-    let mut unit = fresh(0);
-    let mut at = 0;
-    let mut number: u64 = 0;
-    while at < table.len() {
-        number += 1;
-        let v = words::opened(table, at);
-        let id = Id {
-            group: group,
-            number: number,
+    // The call's cause, the commands reached with their answers, and sense bytes 0, 1 and 7.
+    fn print_call<P: Print>(&self, out: &P, cause: u32, reached: usize) -> io::Result<()> {
+        print!(out; " cause={cause} reached={reached}")?;
+        let (answers, _) = self.answers.as_chunks::<{ sizes::ANSWER }>();
+        for answer in answers.iter().take(reached) {
+            print!(out; " {}", Answer(answer))?;
+        }
+        let sense = self.unit.unit.sense;
+        print!(out; " sense={}", Hex(&[sense[0], sense[1], sense[7]]))
+    }
+
+    // The place, by its name and number, and what stands there.
+    fn print_place<P: Print>(&self, out: &P, place: Place) -> io::Result<()> {
+        let (name, bytes) = match place.what {
+            What::Counts => return print!(out; " counts={}", Counts(&self.unit.unit)),
+            What::Sense => return print!(out; " all={}", Hex(&self.unit.unit.sense)),
+            What::Answers => ("answers", &self.answers[..]),
+            What::Store => ("store", &self.store[..]),
+            What::Storage => ("main", &self.storage[..]),
+            What::Map => ("map", &self.unit.map[..]),
         };
-        unit = one(out, id, v, table, unit, chain, storage, store, answers)?;
-        at = v.next;
+        let from = place.from;
+        let shown = Hex(part(bytes, from, place.n));
+        print!(out; " {name}[{from:04X}]={shown}")
     }
-    Ok(())
+
+    // Runs one vector, and prints its line but for its number.
+    fn play<P: Print>(&mut self, out: &P, vector: &Vector) -> io::Result<()> {
+        self.lay(vector);
+        let before = self.unit.unit;
+        let code = self.run(vector);
+        let cause = code / 256;
+        self.print_call(out, cause, (code % 256) as usize)?;
+        if cause != 0 {
+            let kept = is_kept(&before, &self.unit.unit);
+            print!(out; " record={}", if kept { "kept" } else { "changed" })?;
+        }
+        for word in vector.places {
+            self.print_place(out, Place::from(*word))?;
+        }
+        println!(out)
+    }
 }
 
-fn heading<P: Print>(out: &P, n: u64, title: &[u8]) -> io::Result<()> {
-    show::decimal(out, n)?;
-    show::text(out, b". ")?;
-    show::text(out, title)?;
-    show::text(out, b"\n")?;
-    Ok(())
-}
-
-// A group of vectors: its heading, and its lines.
-pub fn group<P: Print>(out: &P, n: u64, title: &[u8], table: &[u64]) -> io::Result<()> {
-    let mut chain = [0; CHAIN];
-    let mut storage = [0; STORAGE];
-    let mut store = [0; STORE];
-    let mut answers = [0; CHAIN];
-    heading(out, n, title)?;
-    turns(
-        out,
-        n,
-        table,
-        &mut chain,
-        &mut storage,
-        &mut store,
-        &mut answers,
-    )?;
-    Ok(())
-}
-
-// A group whose vectors may have a store of up to 66 blocks.
-pub fn large_group<P: Print>(out: &P, n: u64, title: &[u8], table: &[u64]) -> io::Result<()> {
-    let mut chain = [0; CHAIN];
-    let mut storage = [0; STORAGE];
-    let mut store = [0; LARGE_STORE];
-    let mut answers = [0; CHAIN];
-    heading(out, n, title)?;
-    turns(
-        out,
-        n,
-        table,
-        &mut chain,
-        &mut storage,
-        &mut store,
-        &mut answers,
-    )?;
+// A group of vectors: its heading, and their lines.
+pub fn group<P: Print>(out: &P, group: u64, title: &str, table: &[u64]) -> io::Result<()> {
+    println!(out; "{group}. {title}")?;
+    let mut bench = Bench::new();
+    for (number, vector) in (1u64..).zip(Vectors(table)) {
+        print!(out; "{group}.{number}")?;
+        bench.play(out, &vector)?;
+    }
     Ok(())
 }
