@@ -1,7 +1,7 @@
 -- Laws of big-endian numbers: the bytes of a number are bytes, and hold it; a number in bytes fits its width.
 --     be2_is .. bytes4_is                     `be` and `be_bytes` at 2, 3 and 4 bytes are the ones written out
 --     more_bytes, be_fits                     one byte more; n bytes hold a number below 256 ^ n
---     part_long, part_byte, room              what the loop of `be` goes over
+--     part_long, turn                         the part that the loop of `be` goes over, and a turn of it
 --     be_bytes_are, bytes2_are .. bytes4_are  the bytes are bytes
 --     bytes2_hold, bytes4_hold                written and read again
 -- No contract cites this file.
@@ -64,8 +64,7 @@ be_fits (suc n) l at p =
     let byte : get_or l (behind at n) 0 < 256 = p (behind at n) in
     omega (arith, more_bytes n l at, byte, be_fits n l at p, pow-suc 256 n)
 
--- the part that the loop goes over has its n bytes, and byte k of it is the one k places behind `at`
-
+-- the part that the loop goes over has its n bytes
 pub part_long : (l : List ℕ) (at n : ℕ) → at + n ≤ length l → length (take (at + n - at) (drop at l)) ≡ n
 part_long l at n h = length-take-le (at + n - at) (drop at l) (rw length-drop (omega arith)) ∙ omega arith
 
@@ -73,12 +72,21 @@ behind_is : (at n : ℕ) → behind at n ≡ at + n
 behind_is at zero = sym (add-zero at)
 behind_is at (suc n) = refl
 
-pub part_byte : (l : List ℕ) (at n k : ℕ) → k < n → get_or (take (at + n - at) (drop at l)) k 0 ≡ get_or l (behind at k) 0
-part_byte l at n k h = rw (behind_is at k) (get_or-take (at + n - at) (drop at l) k 0 (omega arith) ∙ get_or-drop at l k 0)
+-- a turn at byte k of them, of which there are at most 8: it is the byte k places behind `at`, and there is room for it behind the first k
+pub record Turn (l : List ℕ) (at n k : ℕ) : Type 0 where
+  pub same : get_or (take (at + n - at) (drop at l)) k 0 ≡ get_or l (behind at k) 0
+  pub byte : get_or l (behind at k) 0 < 256
+  pub room : be k l at < 256 ^ 7
 
--- behind the first k of at most 8 bytes there is room for one more
-pub room : (l : List ℕ) (at n k : ℕ) → ((i : ℕ) → get_or l i 0 < 256) → k < n → n ≤ 8 → be k l at < 256 ^ 7
-room l at n k p i j = let top = pow-le-pow_right {n = 256} (omega arith) {i = k} {j = 7} (omega arith) in omega (arith, top, be_fits k l at p)
+pub turn : (l : List ℕ) (at n k : ℕ) → ((i : ℕ) → get_or l i 0 < 256) → (n ≤ 8) × (at + n ≤ length l) → k < length (take (at + n - at) (drop at l)) → Turn l at n k
+turn l at n k p h i =
+    let here : k < n = omega (arith, part_long l at n h.1) in
+    let top = pow-le-pow_right {n = 256} (omega arith) {i = k} {j = 7} (omega arith) in
+    record {
+      same = rw (behind_is at k) (get_or-take (at + n - at) (drop at l) k 0 (omega arith) ∙ get_or-drop at l k 0);
+      byte = p (behind at k);
+      room = omega (arith, top, be_fits k l at p);
+    }
 
 -- any number of bytes, written
 

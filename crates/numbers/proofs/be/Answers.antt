@@ -1,7 +1,7 @@
 -- `be` meets its contract: each turn has room for its byte, and adds it. Assumes nothing.
-use Rattle.std.proofs.Common.{◌≡◌, ◌<◌, refl, sym, arith, add-one}
-use Rattle.numbers.specs.Big.{be, behind}
-use Rattle.numbers.proofs.Big.{more_bytes, be_fits, part_long, part_byte, room}
+use Rattle.std.proofs.Common.{◌≡◌, refl, sym, arith, add-one}
+use Rattle.numbers.specs.Big.{be}
+use Rattle.numbers.proofs.Big.{more_bytes, be_fits, part_long, turn}
 use Rattle.numbers.proofs.be.Goals as goal
 
 pub loop-b-init : goal.loop-b-init
@@ -9,20 +9,18 @@ loop-b-init g c = refl
 
 pub overflow_mul-n : goal.overflow_mul-n
 overflow_mul-n g c =
-    let here : c.loop-b.b-index < g.row.N = omega (arith, part_long c.args.s.now c.args.at g.row.N c.requires.1) in
-    omega (arith, c.loop-b.invariant, room c.args.s.now c.args.at g.row.N c.loop-b.b-index (λ i. (c.type_inv.s i).fits) here c.requires.0)
+    let t = turn c.args.s.now c.args.at g.row.N c.loop-b.b-index (λ i. (c.type_inv.s i).fits) c.requires c.loop-b-test.true in
+    omega (arith, c.loop-b.invariant)
 
 pub overflow_add-n : goal.overflow_add-n
 overflow_add-n g c =
-    let here : c.loop-b.b-index < g.row.N = omega (arith, part_long c.args.s.now c.args.at g.row.N c.requires.1) in
-    let byte = part_byte c.args.s.now c.args.at g.row.N c.loop-b.b-index here in
-    omega (arith, c.from.ensures, byte, (c.type_inv.s (behind c.args.at c.loop-b.b-index)).fits, c.loop-b.invariant, room c.args.s.now c.args.at g.row.N c.loop-b.b-index (λ i. (c.type_inv.s i).fits) here c.requires.0)
+    let t = turn c.args.s.now c.args.at g.row.N c.loop-b.b-index (λ i. (c.type_inv.s i).fits) c.requires c.loop-b-test.true in
+    omega (arith, c.from.ensures, c.loop-b.invariant)
 
 pub loop-b-preserved : goal.loop-b-preserved
 loop-b-preserved g c =
-    let here : c.loop-b.b-index < g.row.N = omega (arith, part_long c.args.s.now c.args.at g.row.N c.requires.1) in
-    let byte = part_byte c.args.s.now c.args.at g.row.N c.loop-b.b-index here in
-    rw (c.loop-b.invariant, c.from.ensures, byte, add-one) (sym (more_bytes c.loop-b.b-index c.args.s.now c.args.at))
+    let t = turn c.args.s.now c.args.at g.row.N c.loop-b.b-index (λ i. (c.type_inv.s i).fits) c.requires c.loop-b-test.true in
+    rw (c.loop-b.invariant, c.from.ensures, t.same, add-one) (sym (more_bytes c.loop-b.b-index c.args.s.now c.args.at))
 
 pub returns : goal.returns
 returns g c =
