@@ -1,17 +1,14 @@
 -- What the stores of `Log::of` leave, one after the other, is what the definition says.
 --     Arrays       what owning counts says of their arrays
---     log_length   the log has 24 bytes
 --     log_stored   the log
 -- No contract cites this file.
 use Prim.Native.Nat.{ℕ}
 use mathlib.Core.Path.{◌≡◌, refl}
 use mathlib.Core.List.{List, [], ◌∷◌}
 use native.Mathlib.Nat.{le_of_eq}
-use native.Mathlib.Omega.{arith}
 use lib.ListN.{length, take, set, replicate}
 use lib.Seq.{take_all}
 use Rattle.slices.specs.Parts.{zeros, put}
-use Rattle.slices.proofs.Laws.{length_zeros, length_put_is}
 use Rattle.model.specs.declared.record.Record.{Record}
 use Rattle.model.specs.declared.record.Counts.{Counts}
 use Rattle.model.specs.Log.{with_counts, log_of}
@@ -21,13 +18,6 @@ pub record Arrays (k : Counts) : Type 0 where
   pub read : length k.blocks_read ≡ 3
   pub written : length k.blocks_written ≡ 3
   pub movements : length k.movements ≡ 2
-
-pub log_length : (u : Record) (k : Counts) → Arrays k → length (log_of (counted u k)) ≡ 24
-unfolding log_of counted with_counts
-log_length u k a =
-    length_put_is 24 _ _ _ (length_put_is 24 _ _ _ (length_put_is 24 _ _ _
-    (length_put_is 24 _ _ _ (length_put_is 24 _ _ _ (length_zeros 24) (omega arith)) (omega arith))
-    (rw a.read (omega arith))) (rw a.written (omega arith))) (rw a.movements (omega arith))
 
 -- the log before the counts are put
 abbrev headed : List ℕ
