@@ -3,6 +3,7 @@
 use mathlib.Core.Path.{◌∙◌, sym}
 use borrow.Author.Rules.{rules}
 use borrow.Author.Tests.{not-true, not-false}
+use Rattle.slices.specs.Parts.{zeros}
 use Rattle.slices.proofs.Laws.{put_copy}
 use Rattle.numbers.specs.Choice.{pick}
 use Rattle.unit_state.specs.Standing.{sense_now}
@@ -16,9 +17,9 @@ returns-in-UnitCheck c =
 
 -- no unit check, and the sense that was found is no more
 pub returns-then-not-l : goal.returns-then-not-l
-unfolding sense_now pick
+unfolding sense_now pick zeros
 returns-then-not-l c =
-    λ u e. rw (sense_is _ u _ c.of.ensures c.in-Accepted.is, not-true c.args.l.state.kept c.if-not-l.true, ← c.requires) c.clear.ensures
+    λ u e. rw (sense_is _ u _ c.of.ensures c.in-Accepted.is, not-true c.args.l.state.kept c.if-not-l.true) (rw c.requires at (c.fill.ensures.after (λ y e. e)))
 
 -- no unit check, and the sense is kept
 pub returns-else-not-l : goal.returns-else-not-l
