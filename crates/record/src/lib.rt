@@ -33,7 +33,7 @@ fn part<const N: usize>(s: &[u8], at: usize) -> [u8; N]
     requires { at + N ≤ length s.now }
     ensures { result ≡ part s.now at N }
 {
-    *s[at..].first_chunk().unwrap()
+    s[at..at + N].try_into().unwrap()
 }
 
 // The record that these bytes begin with.
