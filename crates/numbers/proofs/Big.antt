@@ -78,9 +78,10 @@ pub record Turn (l : List ℕ) (at n k : ℕ) : Type 0 where
   pub byte : get_or l (behind at k) 0 < 256
   pub room : be k l at < 256 ^ 7
 
-pub turn : (l : List ℕ) (at n k : ℕ) → ((i : ℕ) → get_or l i 0 < 256) → (n ≤ 8) × (at + n ≤ length l) → k < length (take (at + n - at) (drop at l)) → Turn l at n k
-turn l at n k p h i =
-    let here : k < n = omega (arith, part_long l at n h.1) in
+pub turn : (l : List ℕ) (at n k : ℕ) → ((i : ℕ) → get_or l i 0 < 256) → n ≤ 8 → at + n ≤ length l → k < length (take (at + n - at) (drop at l))
+    → Turn l at n k
+turn l at n k p narrow there i =
+    let here : k < n = omega (arith, part_long l at n there) in
     let top = pow-le-pow_right {n = 256} (omega arith) {i = k} {j = 7} (omega arith) in
     record {
       same = rw (behind_is at k) (get_or-take (at + n - at) (drop at l) k 0 (omega arith) ∙ get_or-drop at l k 0);

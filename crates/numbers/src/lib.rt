@@ -8,7 +8,8 @@ ghost use Rattle.numbers.specs.Big.{be, be_bytes, be2, be3, be4, bytes2, bytes3,
 
 // The number in the N bytes from `at` on.
 pub fn be<const N: usize>(s: &[u8], at: usize) -> usize
-    requires { (N ≤ 8) × (at + N ≤ length s.now) }
+    requires narrow { N ≤ 8 }
+    requires there { at + N ≤ length s.now }
     ensures value { result ≡ be N s.now at }
     ensures fits { result < 256 ^ N }
 {
