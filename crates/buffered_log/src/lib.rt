@@ -11,7 +11,7 @@ ghost use Rattle.buffered_log.specs.Counts.{added, counted, with_read, with_writ
 use model::record::Counts;
 use model::sizes;
 use numbers::{be, be_bytes};
-use slices::put_at;
+use slices::put;
 
 // A count of N bytes with n added; it stops at the largest number that they hold.
 #[tactic(auto, using(crate::proofs::Counting::powers_fit))]
@@ -93,9 +93,9 @@ impl Log {
         let mut log = [0; sizes::SENSE];
         log[Log::ENVIRONMENTAL] = 0x10; // bit 3: environmental data present
         log[Log::FORMAT_MESSAGE] = 0x68; // format 6, message 8
-        put_at(&mut log, Log::BLOCKS_READ, &k.blocks_read, 3);
-        put_at(&mut log, Log::BLOCKS_WRITTEN, &k.blocks_written, 3);
-        put_at(&mut log, Log::MOVEMENTS, &k.movements, 2);
+        put(&mut log, Log::BLOCKS_READ, &k.blocks_read);
+        put(&mut log, Log::BLOCKS_WRITTEN, &k.blocks_written);
+        put(&mut log, Log::MOVEMENTS, &k.movements);
         Log(log)
     }
 }

@@ -13,7 +13,7 @@ ghost use Rattle.unit_state.specs.Standing.{unit_left};
 use model::kind::Kind;
 use model::record::{Counts, Record};
 use model::sizes;
-use slices::{copy, put_at};
+use slices::put;
 use unit_state::Left;
 
 // Where each field stands in the bytes; sense is first, up to the first count.
@@ -57,9 +57,9 @@ fn put_counts(k: Counts, to: &mut [u8])
     requires { length to.old ≡ map_place }
     ensures { to.new ≡ unit_bytes (with_counts (record_of to.old) k.blocks_read k.blocks_written k.movements) }
 {
-    put_at(to, BLOCKS_READ, &k.blocks_read, 3);
-    put_at(to, BLOCKS_WRITTEN, &k.blocks_written, 3);
-    put_at(to, MOVEMENTS, &k.movements, 2);
+    put(to, BLOCKS_READ, &k.blocks_read);
+    put(to, BLOCKS_WRITTEN, &k.blocks_written);
+    put(to, MOVEMENTS, &k.movements);
 }
 
 // The record goes to the 34 bytes of `to`.
@@ -74,7 +74,7 @@ pub fn pack(u: Record, to: &mut [u8])
     };
     to[READY] = u.ready;
     to[READ_ONLY] = u.read_only;
-    put_at(to, 0, &u.sense, sizes::SENSE);
+    put(to, 0, &u.sense);
     put_counts(counts, to);
 }
 
@@ -87,7 +87,7 @@ fn put_sense(l: Left, to: &mut [u8])
     match Kind::of(l.cause) {
         Kind::UnitCheck => {
             let sense = left.bytes();
-            copy(&sense, to, sizes::SENSE);
+            to.copy_from_slice(&sense);
         }
         Kind::Accepted | Kind::ProgramCheck => {
             if !l.state.kept {

@@ -44,10 +44,18 @@ pub fn clear(to: &mut [u8])
     to.fill(0);
 }
 
+// These bytes go to `to`, from `at` on.
+pub fn put(to: &mut [u8], at: usize, bytes: &[u8])
+    requires { (at + length bytes.now ≤ length to.old) × (length bytes.now ≤ most_copied) }
+    ensures { to.new ≡ put to.old at bytes.now }
+{
+    copy(bytes, &mut to[at..], bytes.len());
+}
+
 // The first n bytes of `from` go to `to`, from `at` on.
 pub fn put_at(to: &mut [u8], at: usize, from: &[u8], n: usize)
     requires { (at + n ≤ length to.old) × (n ≤ length from.now) × (n ≤ most_copied) }
     ensures { to.new ≡ put to.old at (take n from.now) }
 {
-    copy(from, &mut to[at..], n);
+    put(to, at, &from[..n]);
 }

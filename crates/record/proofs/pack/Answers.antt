@@ -7,4 +7,4 @@ use Rattle.record.proofs.pack.Goals as goal
 pub returns : goal.returns
 returns c =
     let long : length c.args.u.sense ≡ 24 = search rules in
-    c.put_counts.ensures ∙ record_stored _ c.args.to.now _ c.requires long c.put_at.ensures
+    c.put_counts.ensures ∙ record_stored _ c.args.to.now _ c.requires long c.put.ensures
