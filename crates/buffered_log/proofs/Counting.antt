@@ -1,5 +1,8 @@
 -- What is counted of the counts is counted of the record that has them. No contract cites this file.
-use Prim.Native.Nat.{ℕ}
+--     powers_fit   how many numbers a count of at most 3 bytes holds
+use Prim.Native.Nat.{ℕ, ◌^◌, ◌≤◌, ◌<◌}
+use native.Mathlib.Nat.{pow-le-pow_right}
+use native.Mathlib.Omega.{arith}
 use mathlib.Core.Path.{◌≡◌, refl}
 use Rattle.model.specs.declared.record.Record.{Record}
 use Rattle.model.specs.declared.record.Counts.{Counts}
@@ -22,3 +25,6 @@ module _ (u : Record) (k : Counts) where
 pub none_counted : (u : Record) → counted u no_counts ≡ log_reset u
 unfolding counted log_reset with_counts
 none_counted u = refl
+
+pub powers_fit : (n : ℕ) → n < 4 → (1 ≤ 256 ^ n) × (256 ^ n ≤ 16777216)
+powers_fit n h = (pow-le-pow_right {n = 256} (omega arith) {i = 0} {j = n} (omega arith), pow-le-pow_right {n = 256} (omega arith) {i = n} {j = 3} (omega arith))

@@ -5,65 +5,68 @@
 ghost use Rattle.std.specs.Prelude.{◌≡◌, ◌<◌, length};
 ghost use Rattle.model.specs.Names.{sense_size};
 ghost use Rattle.model.specs.declared.record.Record.{Record};
-ghost use Rattle.model.specs.Log.{added3, log_of};
-ghost use Rattle.buffered_log.specs.Counts.{counted, with_read, with_written, with_movement, no_counts};
+ghost use Rattle.model.specs.Log.{added2, added3, log_of};
+ghost use Rattle.buffered_log.specs.Counts.{added, counted, with_read, with_written, with_movement, no_counts};
 
 use model::record::Counts;
 use model::sizes;
-use numbers::{bytes2, bytes3, number2, number3};
-use slices::{least, put_at};
+use numbers::{be, be_bytes};
+use slices::put;
 
-// A count of 3 bytes with n added; it stops at the largest number that they hold.
-fn added3(count: [u8; 3], n: usize) -> [u8; 3]
-    requires { n < 4294967296 }
-    ensures { result ≡ added3 count n }
+// A count of N bytes with n added; it stops at the largest number that they hold.
+#[tactic(auto, using(crate::proofs::Counting::powers_fit))]
+fn added<const N: usize>(count: &[u8; N], n: usize) -> [u8; N]
+    requires { (N < 4) × (n < 4294967296) }
+    ensures { result ≡ added N count.now n }
 {
-    bytes3(least(number3(count) + n, 0xFFFFFF))
+    let largest = 256usize.pow(N as u32) - 1;
+    be_bytes((be::<N>(count, 0) + n).min(largest))
 }
 
 // n blocks were read.
+#[tactic(auto, unfolding(model::specs::Log::added3))]
 pub fn read_counted(n: usize, k: Counts) -> Counts
     requires { n < 4294967296 }
     ensures { result ≡ with_read n k }
 {
-    let count = k.blocks_read;
-    let more = added3(count, n);
-    let mut t = k;
-    t.blocks_read = more;
-    t
+    Counts {
+        blocks_read: added(&k.blocks_read, n),
+        ..k
+    }
 }
 
 // n blocks were written with check.
+#[tactic(auto, unfolding(model::specs::Log::added3))]
 pub fn written_counted(n: usize, k: Counts) -> Counts
     requires { n < 4294967296 }
     ensures { result ≡ with_written n k }
 {
-    let count = k.blocks_written;
-    let more = added3(count, n);
-    let mut t = k;
-    t.blocks_written = more;
-    t
+    Counts {
+        blocks_written: added(&k.blocks_written, n),
+        ..k
+    }
 }
 
-// The access mechanism moved once. Two bytes stop likewise.
+// The access mechanism moved once.
+#[tactic(auto, unfolding(model::specs::Log::added2))]
 pub fn movement_counted(k: Counts) -> Counts
     ensures { result ≡ with_movement k }
 {
-    let count = k.movements;
-    let more = bytes2(least(number2(count) + 1, 0xFFFF));
-    let mut t = k;
-    t.movements = more;
-    t
+    Counts {
+        movements: added(&k.movements, 1),
+        ..k
+    }
 }
 
 // The counts once they were sent: they begin again.
+#[tactic(auto, unfolding(slices::specs::Parts::zeros))]
 pub fn none_counted() -> Counts
     ensures { result ≡ no_counts }
 {
     Counts {
-        blocks_read: [0u8; 3],
-        blocks_written: [0u8; 3],
-        movements: [0u8; 2],
+        blocks_read: [0; 3],
+        blocks_written: [0; 3],
+        movements: [0; 2],
     }
 }
 
@@ -87,15 +90,12 @@ impl Log {
         ensures shows { (u : Record) → result.0 ≡ log_of (counted u k) }
         ensures long { length result.0 ≡ sense_size }
     {
-        let read = k.blocks_read;
-        let written = k.blocks_written;
-        let movements = k.movements;
-        let mut log = [0u8; sizes::SENSE];
+        let mut log = [0; sizes::SENSE];
         log[Log::ENVIRONMENTAL] = 0x10; // bit 3: environmental data present
         log[Log::FORMAT_MESSAGE] = 0x68; // format 6, message 8
-        put_at(&mut log, Log::BLOCKS_READ, &read, 3);
-        put_at(&mut log, Log::BLOCKS_WRITTEN, &written, 3);
-        put_at(&mut log, Log::MOVEMENTS, &movements, 2);
+        put(&mut log, Log::BLOCKS_READ, &k.blocks_read);
+        put(&mut log, Log::BLOCKS_WRITTEN, &k.blocks_written);
+        put(&mut log, Log::MOVEMENTS, &k.movements);
         Log(log)
     }
 }

@@ -9,10 +9,10 @@ use Prim.Native.Nat.{ℕ, ◌+◌, ◌≤◌}
 use mathlib.Core.Path.{◌≡◌, refl, sym, ap, ◌∙◌}
 use mathlib.Core.Logic.{◌⊎◌, inl, inr}
 use mathlib.Core.List.{List, [], ◌∷◌, ◌++◌, append_assoc}
-use native.Mathlib.Nat.{zero-add, le_of_eq}
+use native.Mathlib.Nat.{zero-add}
 use native.Mathlib.Omega.{arith}
-use lib.ListN.{length, get_or, set, take, drop, length-append, length-set, drop_of_length-le}
-use lib.Seq.{take_all, drop-cons, get_or-set_same, get_or-set_other}
+use lib.ListN.{length, get_or, set, drop, length-append, length-set, drop_of_length-le}
+use lib.Seq.{drop-cons, get_or-set_same, get_or-set_other}
 use Rattle.slices.specs.Parts.{part, put}
 use Rattle.slices.proofs.Laws.{put_more, get_after, part_put, part_apart}
 use Rattle.model.specs.declared.kind.Kind.{Kind}
@@ -34,7 +34,7 @@ put_behind : (d : List ℕ) (at n : ℕ) (bytes more : List ℕ) → length byte
 put_behind d at n bytes more e h = rw e at (put_more d at bytes more h)
 
 pub counts_stored : (r w m d d₁ d₂ d₃ : List ℕ) → length r ≡ 3 → length w ≡ 3 → length m ≡ 2 → length d ≡ 34
-    → d₁ ≡ put d 24 (take 3 r) → d₂ ≡ put d₁ 27 (take 3 w) → d₃ ≡ put d₂ 30 (take 2 m)
+    → d₁ ≡ put d 24 r → d₂ ≡ put d₁ 27 w → d₃ ≡ put d₂ 30 m
     → d₃ ≡ unit_bytes (with_counts (record_of d) r w m)
 unfolding unit_bytes record_of with_counts part put
 counts_stored r w m d d₁ d₂ d₃ r-long w-long m-long n e₁ e₂ e₃ =
@@ -43,7 +43,7 @@ counts_stored r w m d d₁ d₂ d₃ r-long w-long m-long n e₁ e₂ e₃ =
     let end : drop 32 d ≡ get_or d 32 0 ∷ get_or d 33 0 ∷ [] =
     drop-cons d 32 0 (omega (arith, n)) ∙ ap (λ (x : List ℕ). get_or d 32 0 ∷ x)
     (drop-cons d 33 0 (omega (arith, n)) ∙ ap (λ (x : List ℕ). get_or d 33 0 ∷ x) (drop_of_length-le d {i = 34} (omega (arith, n)))) in
-    rw (e₃, e₂, e₁, take_all 3 r (le_of_eq r-long), take_all 3 w (le_of_eq w-long), take_all 2 m (le_of_eq m-long))
+    rw (e₃, e₂, e₁)
     (rw (put_behind d 24 3 r w r-long (omega arith), put_behind d 24 6 (r ++ w) m six (omega arith), eight, end) (simp append_assoc))
 
 -- the record that was there, with this sense
@@ -56,17 +56,16 @@ sense_put d sense n m =
     refl
 
 pub record_stored : (u : Record) (d d₁ : List ℕ) → length d ≡ 34 → length u.sense ≡ 24
-    → d₁ ≡ put (set (set d 32 u.ready) 33 u.read_only) 0 (take 24 u.sense)
+    → d₁ ≡ put (set (set d 32 u.ready) 33 u.read_only) 0 u.sense
     → unit_bytes (with_counts (record_of d₁) u.blocks_read u.blocks_written u.movements) ≡ unit_bytes u
 unfolding with_counts with_sense record_of
 record_stored u d d₁ n m e =
     let b : List ℕ = set d 32 u.ready in
     let long : length b ≡ 34 = length-set d 32 _ ∙ n in
-    let f : d₁ ≡ put (set b 33 u.read_only) 0 u.sense = rw (e, take_all 24 u.sense (le_of_eq m)) refl in
     let ready : get_or (set b 33 u.read_only) 32 0 ≡ u.ready = get_or-set_other b 33 32 _ 0 (λ h. omega (arith, h)) ∙ get_or-set_same d 32 _ 0 (omega arith) in
     let read_only : get_or (set b 33 u.read_only) 33 0 ≡ u.read_only = get_or-set_same b 33 _ 0 (omega arith) in
     ap (λ (v : Record). unit_bytes (with_counts v u.blocks_read u.blocks_written u.movements))
-    (ap record_of f ∙ sense_put (set b 33 u.read_only) u.sense (length-set b 33 _ ∙ long) m)
+    (ap record_of e ∙ sense_put (set b 33 u.read_only) u.sense (length-set b 33 _ ∙ long) m)
     ∙ rw (ready, read_only) refl
 
 pub sense_made : (u : Record) (l : Left) → l.kind ≡ UnitCheck → (unit_left u l).sense ≡ sense_bytes l.sense

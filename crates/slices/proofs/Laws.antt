@@ -11,7 +11,6 @@ use native.Mathlib.Omega.{arith}
 use lib.Dec.{ltb}
 use lib.ListN.{length, get_or, set, take, drop, length-append, length-take, length-drop, length-replicate, replicate-append-replicate, take-append-drop, drop_of_length-le, get_or-append}
 use lib.Seq.{take-nil, ext_get_or, set-append_seam, length-take-le, take_all, drop-length, drop-drop, drop-cons, drop-append-le, drop-append-add, take-add, take_at, drop_at, get_or-take, get_or-drop, get_or-append-add}
-use borrow.Author.Fill.{fill_more}
 use borrow.Author.Tests.{ltb-true, ltb-false}
 use borrow.Rule.Slice.PartMut.{mid_of, put_mid, mid_len, Post-is}
 use Rattle.numbers.specs.Bytes.{AreBytes}
@@ -186,19 +185,10 @@ put_copied l bytes = rw zero-add refl
 pub front_put : (l bytes : List ℕ) (n : ℕ) → n ≤ length bytes → n ≤ length l → take n (put l 0 (take n bytes)) ≡ take n bytes
 front_put l bytes n h fits = rw zero-add at (take_put l 0 (take n bytes) n (length-take-le n bytes h) (omega arith))
 
-pub put_zeros_none : (l : List ℕ) → put l 0 (zeros 0) ≡ l
-unfolding put zeros
-put_zeros_none l = refl
-
 -- as many bytes as there are
 pub put_all : (l bytes : List ℕ) → length bytes ≡ length l → put l 0 bytes ≡ bytes
 unfolding put
 put_all l bytes e = rw (zero-add, e, drop-length) (append-nil bytes)
-
--- one more byte is cleared
-pub put_zeros_more : (l : List ℕ) (n : ℕ) → n < length l → set (put l 0 (zeros n)) n 0 ≡ put l 0 (zeros (n + 1))
-unfolding put zeros
-put_zeros_more l n h = simp (length-replicate, zero-add) (fill_more n 0 l h)
 
 -- a part that was lent as `&mut l[at..]` or `&mut l[at..at + n]`, and is back
 

@@ -8,48 +8,48 @@ ghost use Rattle.slices.specs.Parts.{zeros, part, put, most_copied};
 pub fn least(a: usize, b: usize) -> usize
     ensures { result ≡ min a b }
 {
-    if a < b { a } else { b }
-}
-
-// The first k bytes of `from` go to the front of `to`, one by one.
-fn each(from: &[u8], to: &mut [u8], k: usize)
-    requires { (k ≤ length from.now) × (k ≤ length to.old) }
-    ensures { to.new ≡ put to.old 0 (take k from.now) }
-{
-    to[..k].copy_from_slice(&from[..k]);
+    a.min(b)
 }
 
 // The most that one copy moves: a count has 16 bits.
 const HELD: usize = 65536;
 
-// The first n bytes of `from` go to the front of `to`, by way of a local. LLVM is not told that `from` and `to` lie apart, but
-// sees that a local lies apart from both: either `each` is a memcpy then, the two are one memmove, and nothing is held when the code runs.
+// The first n bytes of `from` go to the front of `to`, by way of a local. LLVM is not told that `from` and `to` lie apart, and makes a
+// loop of `copy_from_slice` from one to the other; but it sees that a local lies apart from both: either copy is a memcpy then, the two
+// are one memmove, and nothing is held when the code runs.
 pub fn copy(from: &[u8], to: &mut [u8], n: usize)
     requires { (n ≤ length from.now) × (n ≤ length to.old) × (n ≤ most_copied) }
     ensures { to.new ≡ put to.old 0 (take n from.now) }
 {
     let mut held = [0u8; HELD];
-    each(from, &mut held, n);
-    each(&held, to, n);
+    held[..n].copy_from_slice(&from[..n]);
+    to[..n].copy_from_slice(&held[..n]);
 }
 
-// The n bytes from `from` on go to `at`, in one slice, by way of a local as in `copy`.
+// The n bytes from `from` on go to `at`, in one slice, by way of a local as in `copy` (of std's `copy_within` LLVM makes a loop).
 pub fn copy_within(l: &mut [u8], from: usize, at: usize, n: usize)
     requires { (from + n ≤ length l.old) × (at + n ≤ length l.old) × (n ≤ most_copied) }
     ensures { l.new ≡ put l.old at (part l.old from n) }
 {
     let mut held = [0u8; HELD];
-    each(&l[from..], &mut held, n);
-    each(&held, &mut l[at..], n);
+    held[..n].copy_from_slice(&l[from..from + n]);
+    l[at..at + n].copy_from_slice(&held[..n]);
 }
 
 // Zero in every byte.
+#[tactic(auto, unfolding(crate::specs::Parts::zeros))]
 pub fn clear(to: &mut [u8])
     ensures { to.new ≡ zeros (length to.old) }
 {
-    for i in 0..to.len() {
-        to[i] = 0;
-    }
+    to.fill(0);
+}
+
+// These bytes go to `to`, from `at` on.
+pub fn put(to: &mut [u8], at: usize, bytes: &[u8])
+    requires { (at + length bytes.now ≤ length to.old) × (length bytes.now ≤ most_copied) }
+    ensures { to.new ≡ put to.old at bytes.now }
+{
+    copy(bytes, &mut to[at..], bytes.len());
 }
 
 // The first n bytes of `from` go to `to`, from `at` on.
@@ -57,5 +57,5 @@ pub fn put_at(to: &mut [u8], at: usize, from: &[u8], n: usize)
     requires { (at + n ≤ length to.old) × (n ≤ length from.now) × (n ≤ most_copied) }
     ensures { to.new ≡ put to.old at (take n from.now) }
 {
-    copy(from, &mut to[at..], n);
+    put(to, at, &from[..n]);
 }

@@ -1,17 +1,11 @@
 -- `pack_left` meets its contract. Assumes nothing.
-use mathlib.Core.Path.{refl, sym, ◌∙◌}
+use mathlib.Core.Path.{refl, ◌∙◌}
 use native.Mathlib.Omega.{arith}
 use lib.Seq.{length-take-le}
 use Rattle.slices.specs.Parts.{part}
 use Rattle.model.specs.Lent.{record_of}
 use Rattle.record.proofs.Stores.{left_stored}
 use Rattle.record.proofs.pack_left.Goals as goal
-
-pub slice_bounds-put_sense-end-2 : goal.slice_bounds-put_sense-end-2
-slice_bounds-put_sense-end-2 c = sym (length-take-le 24 c.args.to.now (omega arith))
-
-pub put_sense-requires : goal.put_sense-requires
-put_sense-requires c = length-take-le 24 c.args.to.now (omega arith)
 
 pub returns : goal.returns
 unfolding record_of part

@@ -5,4 +5,4 @@ use Rattle.record.proofs.put_counts.Goals as goal
 
 pub returns : goal.returns
 returns c =
-    counts_stored _ _ _ _ _ _ _ (search rules) (search rules) (search rules) c.requires c.put_at.ensures c.put_at-2.ensures c.put_at-3.ensures
+    counts_stored _ _ _ _ _ _ _ (search rules) (search rules) (search rules) c.requires c.put.ensures c.put-2.ensures c.put-3.ensures

@@ -1,9 +1,8 @@
 -- `put_sense` meets its contract. Assumes nothing.
 -- a unit check: the sense of its cause
 use mathlib.Core.Path.{◌∙◌, sym}
-use borrow.Author.Rules.{rules}
 use borrow.Author.Tests.{not-true, not-false}
-use Rattle.slices.proofs.Laws.{put_copy}
+use Rattle.slices.specs.Parts.{zeros}
 use Rattle.numbers.specs.Choice.{pick}
 use Rattle.unit_state.specs.Standing.{sense_now}
 use Rattle.record.proofs.Stores.{sense_made, sense_is}
@@ -11,14 +10,13 @@ use Rattle.record.proofs.put_sense.Goals as goal
 
 pub returns-in-UnitCheck : goal.returns-in-UnitCheck
 returns-in-UnitCheck c =
-    let whole = put_copy 24 _ c.bytes-sense.result c.requires (search rules) in
-    λ u e. c.copy.ensures ∙ whole ∙ c.bytes-sense.ensures ∙ sym (sense_made u c.args.l c.in-UnitCheck.is)
+    λ u e. c.copy_from_slice.ensures.after ∙ c.bytes-sense.ensures ∙ sym (sense_made u c.args.l c.in-UnitCheck.is)
 
 -- no unit check, and the sense that was found is no more
 pub returns-then-not-l : goal.returns-then-not-l
-unfolding sense_now pick
+unfolding sense_now pick zeros
 returns-then-not-l c =
-    λ u e. rw (sense_is u c.args.l c.in-Accepted.is, not-true c.args.l.state.kept c.if-not-l.true, ← c.requires) c.clear.ensures
+    λ u e. rw (sense_is u c.args.l c.in-Accepted.is, not-true c.args.l.state.kept c.if-not-l.true) (rw c.requires at (c.fill.ensures.after (λ y e. e)))
 
 -- no unit check, and the sense is kept
 pub returns-else-not-l : goal.returns-else-not-l

@@ -1,21 +1,12 @@
--- `slices::copy` meets its contract: what is held begins with the bytes that were put there.
--- Assumes nothing.
-use mathlib.Core.Path.{◌≡◌, ap, ◌∙◌}
-use mathlib.Core.List.{List}
-use Prim.Native.Nat.{ℕ, ◌≤◌}
-use native.Mathlib.Omega.{arith}
-use lib.ListN.{length, take, replicate, length-replicate}
-use Rattle.slices.specs.Parts.{put}
-use Rattle.slices.proofs.Laws.{front_put}
+-- `copy` meets its contract: what is held begins with the bytes that were copied there. Assumes nothing.
+use Rattle.std.proofs.Common.{◌≡◌, length, take}
+use Rattle.std.proofs.Math.Seq.{length-take-le, take_at}
+use Rattle.slices.proofs.Laws.{put_copied}
 use Rattle.slices.proofs.copy.Goals as goal
-
-pub each-requires : goal.each-requires
-each-requires c = (omega arith, rw length-replicate (omega arith))
 
 pub returns : goal.returns
 returns c =
     let a = c.args in
-    let room : List ℕ = replicate 65536 0 in
-    let fits : a.n ≤ length room = rw length-replicate c.requires.2 in
-    let same : take a.n c.each.new.to ≡ take a.n a.from.now = rw c.each.ensures (front_put room a.from.now a.n c.requires.0 fits) in
-    c.each-2.ensures ∙ ap (put a.to.now 0) same
+    let bytes = take a.n a.from.now in
+    let long : length bytes ≡ a.n = length-take-le a.n a.from.now c.requires.0 in
+    rw (c.copy_from_slice-2.ensures.after, c.copy_from_slice.ensures.after, take_at bytes _ a.n long) (rw long at (put_copied a.to.now bytes))

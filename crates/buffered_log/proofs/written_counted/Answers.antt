@@ -1,5 +1,0 @@
--- `written_counted` meets its contract: the field that changes is the sum that stops. Assumes nothing.
-use Rattle.buffered_log.proofs.written_counted.Goals as goal
-
-pub returns : goal.returns
-returns c = rw c.added3-more.ensures
