@@ -1,32 +1,33 @@
 -- What the code tests, and the definition's own words for it.
---     chained_none, chained_more, chained_not
---                        flag 80 or 40 of each CCW, taken from the first CCW on: so far, one more, and one that is off
+--     chained_by   flag 80 or 40 of each CCW, looked for from the first CCW on
 -- No contract cites this file.
-use Prim.Native.Nat.{ℕ, zero, suc, ◌+◌, ◌<◌}
-use mathlib.Core.Path.{◌≡◌, refl}
-use mathlib.Core.Bool.{true, false, and-false}
-use mathlib.Core.List.{List}
-use native.Mathlib.Decide.{dec_le}
-use native.Mathlib.Nat.{not-suc-le-zero}
+use Prim.Native.Nat.{ℕ, zero, suc, ◌+◌}
+use mathlib.Core.Path.{◌≡◌, refl, sym, ap, ◌∙◌}
+use mathlib.Core.Bool.{Bool, ◌&&◌, and-true}
+use Rattle.std.proofs.Math.Bool.{and_comm}
+use mathlib.Core.List.{List, [], ◌∷◌, map}
 use native.Mathlib.Numerals.{add-one}
 use native.Mathlib.Omega.{arith}
-use Rattle.model.specs.declared.ccw.Piece.{Piece}
+use Rattle.std.specs.List.{range_with_len, list_all}
+use Rattle.std.proofs.lemmas.List.Folds.{list_all-append, list_all-map}
+use Rattle.std.proofs.lemmas.List.FromFn.{map-range_with_len_more}
 use Rattle.model.specs.Lent.{piece_at}
 use Rattle.model.specs.Causes.{followed, all_chained}
 
-pub chained_none : (chain : List ℕ) → all_chained chain 0 ≡ true
-unfolding all_chained
-chained_none chain = refl
+module _ (chain : List ℕ) where
+  abbrev follows : ℕ → Bool
+  follows i = followed (piece_at chain i)
 
-pub chained_more : (chain : List ℕ) (i : ℕ) (p : Piece) → p ≡ piece_at chain i → followed p ≡ true → all_chained chain i ≡ true → all_chained chain (i + 1) ≡ true
-unfolding all_chained
-chained_more chain i p r e f = rw (add-one, ← r, e, f)
+  -- one more CCW, behind those looked at
+  all_more : (n : ℕ) → list_all follows (range_with_len 0 (n + 1)) ≡ (follows n && list_all follows (range_with_len 0 n))
+  all_more n =
+      let same : (k : ℕ) → list_all (λ b. b) (map follows (range_with_len 0 k)) ≡ list_all follows (range_with_len 0 k) = λ k. list_all-map (λ b. b) follows (range_with_len 0 k) in
+      sym (same (n + 1))
+      ∙ ap (list_all (λ b. b)) (map-range_with_len_more follows 0 n n (omega arith))
+      ∙ list_all-append (λ b. b) (map follows (range_with_len 0 n)) (follows n ∷ [])
+      ∙ rw (same n, and-true) (and_comm (list_all follows (range_with_len 0 n)) (follows n))
 
--- CCW i is one of the n
-pub chained_not : (chain : List ℕ) (i n : ℕ) (p : Piece) → p ≡ piece_at chain i → followed p ≡ false → i < n → all_chained chain n ≡ false
-unfolding all_chained
-chained_not chain i zero p r e h = absurd (not-suc-le-zero h)
-chained_not chain i (suc n) p r e h = elim (dec_le (suc i) n) [
-  | yes l ↦ rw (chained_not chain i n p r e l) (and-false (followed (piece_at chain n)))
-  | no l ↦ let same : n ≡ i = omega arith in rw (same, ← r, e)
-]
+  pub chained_by : (n : ℕ) → list_all follows (range_with_len 0 n) ≡ all_chained chain n
+  unfolding all_chained
+  chained_by zero = refl
+  chained_by (suc n) = rw add-one at (all_more n) ∙ ap (λ (b : Bool). follows n && b) (chained_by n)

@@ -11,8 +11,9 @@
 --     Walks, Allowed          so is a run, and a call that no cause refuses
 --     called_with             what a call gives, with what was lent
 -- Assumes nothing.
-use Rattle.std.specs.Prelude.{ℕ, zero, suc, ◌+◌, ◌-◌, ◌*◌, ◌/◌, ◌≤◌, ◌<◌, ◌≡◌, Bool, true, false, ◌&&◌, List, length, drop}
+use Rattle.std.specs.Prelude.{ℕ, zero, suc, ◌+◌, ◌-◌, ◌*◌, ◌/◌, ◌≤◌, ◌<◌, ◌≡◌, Bool, true, false, ◌&&◌, List, length, drop, Result, Ok, Err}
 use Rattle.numbers.specs.Choice.{◌=?◌, pick}
+use Rattle.model.specs.declared.cause.Cause.{Cause}
 use Rattle.model.specs.declared.device.Device.{Device}
 use Rattle.model.specs.declared.kind.Kind.{Kind}
 use Rattle.model.specs.declared.kind.Kind.TheVariants.{Accepted, ProgramCheck, UnitCheck}
@@ -29,6 +30,7 @@ use Rattle.model.specs.Causes.{kind_of}
 use Rattle.model.specs.Commands.{Out}
 use Rattle.model.specs.Chain.{System, system, step_at, next, more, run, start, Called, called, call_of}
 use Rattle.model.specs.Safe.{Closes}
+use Rattle.model.specs.Told.{cause_number}
 use Rattle.buffered_log.specs.Counts.{counts_of}
 use Rattle.sense_table.specs.Sensed.{sense_showing, no_sense}
 use Rattle.unit_state.specs.declared.Running.{Running}
@@ -122,5 +124,7 @@ pub record Allowed (dev : Device) (u : Record) (chain main store map answers : L
   pub after : called 0 (system_left (holding u map') w.left main' store' answers' w.reached) ≡ call_of dev chain main store u map answers
   pub left : w.left ≡ left_call dev chain main store (holding u map) answers
 
-abbrev pub called_with : Returned → List ℕ → List ℕ → List ℕ → List ℕ → Called
-called_with r main store map answers = record { cause = r.cause; reached = r.reached; unit = r.unit; map = map; main = main; store = store; answers = answers }
+-- of a call that was lent record u, which a refused one leaves
+abbrev pub called_with : Record → Result Returned Cause → List ℕ → List ℕ → List ℕ → List ℕ → Called
+called_with u (Ok r) main store map answers = record { cause = 0; reached = r.reached; unit = r.unit; map = map; main = main; store = store; answers = answers }
+called_with u (Err cause) main store map answers = record { cause = cause_number cause; reached = 0; unit = u; map = map; main = main; store = store; answers = answers }

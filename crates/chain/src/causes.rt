@@ -1,4 +1,4 @@
-// The causes that refuse a call before any command: 1 to 5 (`lent_cause`) and 8 (`map_cause`). The way in is `call_cause`, which is 0 where
+// The causes that refuse a call before any command: 1 to 5 (`lent_cause`) and 8 (`map_cause`). The way in is `call_cause`, which is Ok where
 // the chain may run; a call from C has cause 6 between the two. `store_wrong` is cause 2's rule, also where no chain is run.
 ghost use Rattle.std.specs.Prelude.{◌≡◌, ◌/◌, ◌≤◌, length};
 ghost use Rattle.model.specs.Rules.{first_of};
@@ -6,10 +6,12 @@ ghost use Rattle.model.specs.Alternates.{map_size};
 ghost use Rattle.model.specs.Lent.{ccw_size, store_blocks};
 ghost use Rattle.model.specs.Causes.{followed, all_chained, bad_chain, bad_store, lent_causes, map_causes, call_causes};
 ghost use Rattle.model.specs.Safe.{Usable};
+ghost use Rattle.model.specs.Told.{told};
 
 use alternates::map_wrong;
 use blocks::block_count;
 use channel::ccw::piece_at;
+use model::cause::Cause;
 use model::ccw::Piece;
 use model::device::Device;
 use model::sizes;
@@ -18,99 +20,83 @@ use model::sizes;
 fn chain_wrong(len: usize) -> bool
     ensures { result ≡ bad_chain len }
 {
-    if len == 0 {
-        return true;
-    }
-    if sizes::CHAIN_LIMIT < len {
-        return true;
-    }
-    len % sizes::CCW != 0
+    len == 0 || sizes::CHAIN_LIMIT < len || len % sizes::CCW != 0
 }
 
 // No block, a part of one, or more than 131,072; more than 64 alternates, or no primary.
+#[tactic(auto, unfolding(model::specs::Lent::store_blocks))]
 pub fn store_wrong(d: Device, store: &[u8]) -> bool
     requires { Usable d }
     ensures { result ≡ bad_store d store.now }
 {
     let len = store.len();
-    if len == 0 {
-        return true;
-    }
-    if len % d.block != 0 {
-        return true;
-    }
     let blocks = len / d.block;
-    if sizes::BLOCKS_LIMIT < blocks {
-        return true;
-    }
-    if sizes::ENTRIES < d.alternates {
-        return true;
-    }
-    blocks <= d.alternates
+    len == 0
+        || len % d.block != 0
+        || sizes::BLOCKS_LIMIT < blocks
+        || sizes::ENTRIES < d.alternates
+        || blocks <= d.alternates
 }
 
 // Another CCW follows: one more piece of the command, or another command.
+#[tactic(auto, unfolding(model::specs::Lent::flag))]
 fn another_follows(p: Piece) -> bool
     ensures { result ≡ followed p }
 {
-    let flags = p.flags;
-    if flags.continued() {
-        return true;
-    }
-    flags.chained()
+    p.flags.continued() || p.flags.chained()
 }
 
 // Each CCW has flag 80 or 40, so no CCW is the chain's last.
 fn all_chained(chain: &[u8]) -> bool
     ensures { result ≡ all_chained chain.now (length chain.now / ccw_size) }
 {
-    let n = chain.len() / sizes::CCW;
-    let mut i = 0;
-    while i < n {
-        let p = piece_at(chain, i);
-        if !another_follows(p) {
-            return false;
-        }
-        i += 1;
-    }
-    true
+    (0..chain.len() / sizes::CCW).all(|i| another_follows(piece_at(chain, i)))
 }
 
-// The first of causes 1 to 5 that holds of the call, or 0.
-pub fn lent_cause(d: Device, chain: &[u8], main: &[u8], store: &[u8], answers: &[u8]) -> u8
+// The first of causes 1 to 5 that holds of the call.
+#[tactic(auto, unfolding(model::specs::Causes::lent_causes, model::specs::Rules::first_of, numbers::specs::Choice::pick))]
+pub fn lent_cause(
+    d: Device,
+    chain: &[u8],
+    main: &[u8],
+    store: &[u8],
+    answers: &[u8],
+) -> Result<(), Cause>
     requires { Usable d }
-    ensures { result ≡ first_of (lent_causes d chain.now main.now store.now answers.now) }
+    ensures { told result ≡ first_of (lent_causes d chain.now main.now store.now answers.now) }
 {
     if chain_wrong(chain.len()) {
-        return 1;
+        return Err(Cause::BadChain);
     }
     if store_wrong(d, store) {
-        return 2;
+        return Err(Cause::BadStore);
     }
     if sizes::STORAGE_LIMIT < main.len() {
-        return 3;
+        return Err(Cause::LongStorage);
     }
     if answers.len() < chain.len() {
-        return 4;
+        return Err(Cause::ShortAnswers);
     }
     if all_chained(chain) {
-        return 5;
+        return Err(Cause::AllChained);
     }
-    0
+    Ok(())
 }
 
-// 8 where the map is not right for this device, or 0.
-pub fn map_cause(d: Device, store: &[u8], map: &[u8]) -> u8
+// 8 where the map is not right for this device.
+#[tactic(auto, unfolding(model::specs::Causes::map_causes, model::specs::Rules::first_of, numbers::specs::Choice::pick))]
+pub fn map_cause(d: Device, store: &[u8], map: &[u8]) -> Result<(), Cause>
     requires { Usable d × (d.alternates ≤ store_blocks d store.now) × (length map.now ≡ map_size) }
-    ensures { result ≡ first_of (map_causes d store.now map.now) }
+    ensures { told result ≡ first_of (map_causes d store.now map.now) }
 {
     if map_wrong(d.alternates, block_count(d, store), map) {
-        return 8;
+        return Err(Cause::BadMap);
     }
-    0
+    Ok(())
 }
 
-// The first of causes 1 to 5 and 8 that holds of the call, or 0.
+// The first of causes 1 to 5 and 8 that holds of the call.
+#[tactic(auto, using(crate::proofs::Passed::call_first, crate::proofs::Passed::call_map, model::proofs::Endings::lent_primary))]
 pub fn call_cause(
     d: Device,
     chain: &[u8],
@@ -118,13 +104,10 @@ pub fn call_cause(
     store: &[u8],
     map: &[u8],
     answers: &[u8],
-) -> u8
+) -> Result<(), Cause>
     requires { Usable d × (length map.now ≡ map_size) }
-    ensures { result ≡ first_of (call_causes d chain.now main.now store.now map.now answers.now) }
+    ensures { told result ≡ first_of (call_causes d chain.now main.now store.now map.now answers.now) }
 {
-    let cause = lent_cause(d, chain, main, store, answers);
-    if cause != 0 {
-        return cause;
-    }
+    lent_cause(d, chain, main, store, answers)?;
     map_cause(d, store, map)
 }
