@@ -1,6 +1,6 @@
--- A call gives at most 32 answers, and what it gave is the outcome. No contract cites this file.
+-- A call gives at most 32 answers, a refused one leaves the map, and what it gave is the outcome. No contract cites this file.
 use Prim.Native.Nat.{ℕ, ◌≤◌}
-use mathlib.Core.Path.{◌≡◌, refl, ap}
+use mathlib.Core.Path.{◌≡◌, refl, sym, ap, ◌∙◌}
 use mathlib.Core.Bool.{Bool, true, false}
 use mathlib.Core.List.{List}
 use lib.Dec.{eqb}
@@ -10,7 +10,7 @@ use Rattle.model.specs.declared.record.Record.{Record}
 use Rattle.model.specs.declared.record.UnitRecord.{UnitRecord}
 use Rattle.model.specs.Rules.{first_of}
 use Rattle.model.specs.Causes.{call_causes}
-use Rattle.model.specs.Chain.{Called, call, class_a}
+use Rattle.model.specs.Chain.{Called, call_of, call, class_a}
 use Rattle.model.specs.Host.{result_of}
 use Rattle.model.proofs.Refusals.{call_refused}
 use Rattle.model.proofs.Endings.{callable, call_reached}
@@ -26,6 +26,13 @@ module _ (alternates : ℕ) (chain main store : List ℕ) (u : Record) (map answ
 
   pub reached_few : (c : Called) → c ≡ call alternates chain main store u map answers → c.reached ≤ 32
   reached_few c e = rw e few_reached
+
+  -- a refused call leaves the map as it was
+  pub map_kept : (c : Called) → c ≡ call alternates chain main store u map answers → (c.cause ≡ 0 → ⊥) → c.map ≡ map
+  unfolding call_of
+  map_kept c e n =
+      let cause : c.cause ≡ first_of (call_causes (class_a alternates) chain main store map answers) = ap (λ (d : Called). d.cause) e in
+      ap (λ (d : Called). d.map) (e ∙ call_refused (class_a alternates) chain main store u map answers _ (sym cause) n)
 
 pub gives_outcome : (r : UnitRecord) (alternates : ℕ) (chain storage store answers : List ℕ) (c : Called) (code : ℕ)
     → c ≡ call alternates chain storage store r.unit r.map answers → code ≡ result_of c.cause c.reached

@@ -27,24 +27,29 @@ fn run_core(
     ensures { ByValue r alternates chain.now storage.old store.old answers.old
         result storage.new store.new answers.new }
 {
-    let unit = r.unit;
     let mut map = r.map;
     let called = call(
         Device::class_a(alternates),
-        unit,
+        r.unit,
         chain,
         storage,
         store,
         &mut map,
         answers,
     );
-    let left = called.unit;
-    Ran {
-        unit: UnitRecord {
-            unit: left,
-            map: map,
+    match called {
+        Ok(returned) => Ran {
+            unit: UnitRecord {
+                unit: returned.unit,
+                map: map,
+            },
+            code: result_of(Ok(returned.reached)),
         },
-        code: result_of(called.cause, called.reached),
+        // nothing was written
+        Err(cause) => Ran {
+            unit: r,
+            code: result_of(Err(cause)),
+        },
     }
 }
 

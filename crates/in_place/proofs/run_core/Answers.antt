@@ -1,24 +1,22 @@
 -- `in_place::run_core` meets its contract. The call's equation, with cause and commands reached in one number; they fit, since at most 32 commands are reached. Assumes nothing.
-use mathlib.Core.Path.{◌≡◌, sym}
-use lib.ListN.{length}
-use Rattle.model.proofs.Safety.{class_a_usable}
-use Rattle.in_place.proofs.Reached.{reached_few, gives_outcome}
-use borrow.Author.Rules.{rules}
+use borrow.Author.Tests.{eqb-false}
+use Rattle.model.proofs.Told.{refused_told}
+use Rattle.in_place.proofs.Reached.{reached_few, map_kept, gives_outcome}
 use Rattle.in_place.proofs.run_core.Goals as goal
-
-pub slice_bounds-call-end : goal.slice_bounds-call-end
-slice_bounds-call-end c = let long : length c.args.r.map ≡ 256 = search rules in sym long
-
-pub call-called-requires : goal.call-called-requires
-call-called-requires c = let long : length c.args.r.map ≡ 256 = search rules in (rw c.class_a.ensures (class_a_usable _), long)
 
 pub result_of-requires : goal.result_of-requires
 result_of-requires c =
     let args = c.args in
-    reached_few args.alternates args.chain.now args.storage.now args.store.now args.r.unit args.r.map args.answers.now _
-    (rw c.class_a.ensures at c.call-called.ensures)
+    reached_few args.alternates args.chain.now args.storage.now args.store.now args.r.unit args.r.map args.answers.now _ (rw c.class_a.ensures at c.in-Ok.ensures)
 
-pub returns : goal.returns
-returns c =
+pub returns-in-Ok : goal.returns-in-Ok
+returns-in-Ok c =
     let args = c.args in
-    record { is = gives_outcome args.r args.alternates args.chain.now args.storage.now args.store.now args.answers.now _ _ (rw c.class_a.ensures at c.call-called.ensures) c.result_of.ensures }
+    record { is = gives_outcome args.r args.alternates args.chain.now args.storage.now args.store.now args.answers.now _ _ (rw c.class_a.ensures at c.in-Ok.ensures) c.result_of.ensures }
+
+pub returns-in-Err : goal.returns-in-Err
+returns-in-Err c =
+    let args = c.args in
+    let refused = rw c.class_a.ensures at c.in-Err.ensures in
+    let kept = map_kept args.alternates args.chain.now args.storage.now args.store.now args.r.unit args.r.map args.answers.now _ refused (eqb-false _ _ (refused_told c.in-Err.cause)) in
+    record { is = rw kept at (gives_outcome args.r args.alternates args.chain.now args.storage.now args.store.now args.answers.now _ _ refused c.result_of-in-Err.ensures) }
