@@ -1,4 +1,5 @@
 -- Two tables, one after the other, as a `?` goes over them, and the call that such a table refuses.
+--     never_none              no cause has the number 0
 --     refused_first           the first one's error is the verdict of both
 --     passed_first            where the first one gives none, the second one's verdict is
 --     call_first, call_map    so it is of causes 1 to 5, and of 8 behind them
@@ -22,6 +23,9 @@ use Rattle.model.proofs.Refusals.{call_refused}
 use Rattle.model.proofs.Told.{refused_told}
 use Rattle.model.proofs.Verdicts.{first_append}
 
+pub never_none : (cause : Cause) → cause_number cause ≡ 0 → ⊥
+never_none cause = eqb-false _ _ (refused_told cause)
+
 module _ (front back : List Rule) (a : absent 0 front ≡ true) where
   pub refused_first : (cause : Cause) → cause_number cause ≡ first_of front → first_of (front ++ back) ≡ cause_number cause
   unfolding pick
@@ -43,4 +47,4 @@ module _ (dev : Device) (chain main store map answers : List ℕ) where
 
   pub refused_call : (u : Record) (cause : Cause) → cause_number cause ≡ first_of (call_causes dev chain main store map answers)
       → call_of dev chain main store u map answers ≡ record { cause = cause_number cause; reached = 0; unit = u; map = map; main = main; store = store; answers = answers }
-  refused_call u cause e = call_refused dev chain main store u map answers _ (sym e) (eqb-false _ _ (refused_told cause))
+  refused_call u cause e = call_refused dev chain main store u map answers _ (sym e) (never_none cause)

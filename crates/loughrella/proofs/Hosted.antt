@@ -3,21 +3,23 @@
 --                      of 290 bytes of record the map is lent as those behind the first 34
 --     front_kept, map_behind, map_stored
 --                      once it is back, the record has the new map, and what stands before it stays
---     first_found, six_found, none_found
---                      the first of 1 to 6, by what the code looked at: one of 1 to 5, else the length of the record
+--     sized_first, sized_record
+--                      the first of 1 to 6: that of 1 to 5, or where there is none, 6 by the length of the record
 --     record_taken     the record stands in the first 34 bytes; new_stored   and one that is set up
---     sized            none of them holds: none of 1 to 5 does, and there are 290 bytes of record
+--     sized, sized_long
+--                      none of them holds: none of 1 to 5 does, and there are 290 bytes of record
 --     refused_sized, refused_map
 --                      one of them holds, or 8 does: refused, and nothing changed
 --     may_run          none does, and the call may run
 --     ran_hosted       the run on the record that the bytes hold, and what it left packed again
 --     few_hosted       the commands reached fit their number
+--     usable           the device of every call of ours may be used
 --     reached_unique   what `run_hosted` promises allows one result
 -- No contract cites this file.
 use Prim.Native.Nat.{ℕ, ◌+◌, ◌-◌, ◌≤◌}
 use mathlib.Core.Path.{◌≡◌, refl, sym, ap, ◌∙◌}
 use mathlib.Core.Bool.{not}
-use mathlib.Core.List.{List, [], ◌∷◌, ◌++◌}
+use mathlib.Core.List.{List, [], ◌∷◌, ◌++◌, append_assoc}
 use lib.ListN.{length, take, drop, length-drop, take-append-drop}
 use lib.Seq.{take-take, take_all, take_at, length-take-le, get_or-take}
 use native.Mathlib.Omega.{arith}
@@ -27,20 +29,25 @@ use Rattle.numbers.specs.Choice.{◌=?◌, pick}
 use Rattle.numbers.proofs.Choice.{pick_ind, pick_true, pick_false}
 use Rattle.slices.specs.Parts.{zeros, part, put, pad}
 use Rattle.slices.proofs.Laws.{rest_lent, rest_back, drop_take, pad_cleared}
+use Rattle.model.specs.declared.cause.Cause.{Cause}
 use Rattle.model.specs.declared.device.Device.{Device}
 use Rattle.model.specs.Rules.{◌when◌, first_of}
 use Rattle.model.specs.Alternates.{map_size}
 use Rattle.model.specs.Lent.{map_place, record_size, unit_bytes, record_bytes, record_of, map_of, new_map}
-use Rattle.model.specs.Causes.{lent_causes, map_causes, call_causes, host_causes}
-use Rattle.model.specs.Chain.{Called, call_of}
+use Rattle.model.specs.Causes.{lent_causes, record_causes, map_causes, call_causes, host_causes}
+use Rattle.model.specs.Chain.{Called, call_of, class_a}
 use Rattle.model.specs.Host.{result_of, hosted, host_call_of}
+use Rattle.model.specs.Safe.{Usable}
+use Rattle.model.specs.Told.{cause_number}
 use Rattle.model.proofs.Verdicts.{first_append, failed_upto, failed_all, none_given}
 use Rattle.model.proofs.Endings.{callable, call_reached}
 use Rattle.model.proofs.Refusals.{host_refused}
 use Rattle.model.proofs.Records.{record_front}
+use Rattle.model.proofs.Safety.{class_a_usable}
 use Rattle.model.proofs.Hosts.{host_verdict, host_is_call}
 use Rattle.unit_state.specs.declared.Left.{Left}
 use Rattle.unit_state.specs.Standing.{unit_left}
+use Rattle.chain.proofs.Passed.{never_none, refused_first, passed_first}
 use Rattle.loughrella.specs.Sized.{sized_causes}
 
 -- the record stands in the first 34 bytes
@@ -101,20 +108,13 @@ module _ (dev : Device) (chain storage store unit answers : List ℕ) where
   abbrev map_verdict : ℕ
   map_verdict = first_of (map_causes dev store (map_of unit))
 
-  sized_is : sized_verdict ≡ pick (lent =? 0) (pick (not (length unit =? record_size)) 6 0) lent
-  unfolding lent_causes first_of
-  sized_is = first_append (lent_causes dev chain storage store answers) (6 when not (length unit =? record_size) ∷ []) refl
+  pub sized_first : (cause : Cause) → cause_number cause ≡ lent → sized_verdict ≡ cause_number cause
+  unfolding lent_causes
+  sized_first cause e = refused_first (lent_causes dev chain storage store answers) (record_causes unit) refl cause e
 
-  pub first_found : (cause : ℕ) → cause ≡ lent → (cause ≡ 0 → ⊥) → cause ≡ sized_verdict
-  first_found cause e n = sym (sized_is ∙ rw (← e) (pick_false _ _ _ (ne_eqb _ _ n)))
-
-  pub six_found : lent ≡ 0 → (length unit ≡ record_size → ⊥) → 6 ≡ sized_verdict
-  unfolding pick
-  six_found e n = sym (sized_is ∙ rw (e, ne_eqb _ _ n))
-
-  pub none_found : lent ≡ 0 → length unit ≡ record_size → 0 ≡ sized_verdict
-  unfolding pick
-  none_found e l = sym (sized_is ∙ rw (e, eq-eqb _ _ l))
+  pub sized_record : 0 ≡ lent → sized_verdict ≡ first_of (record_causes unit)
+  unfolding lent_causes
+  sized_record e = passed_first (lent_causes dev chain storage store answers) (record_causes unit) refl e
 
   pub sized : sized_verdict ≡ 0 → (lent ≡ 0) × (length unit ≡ record_size)
   unfolding lent_causes
@@ -122,20 +122,19 @@ module _ (dev : Device) (chain storage store unit answers : List ℕ) where
       let f = failed_upto 0 (lent_causes dev chain storage store answers) _ refl e in
       (none_given _ f.0, eqb-true _ _ (not-false _ (failed_all 0 _ refl f.1).0))
 
-  -- a verdict of 1 to 6 is the call's
-  refused_first : (cause : ℕ) → cause ≡ sized_verdict → (cause ≡ 0 → ⊥) → first_of (host_causes dev chain storage store unit answers) ≡ cause
-  refused_first cause e n =
-      host_verdict dev chain storage store unit answers
-      ∙ pick_ind (λ (v : ℕ). v ≡ cause) (lent =? 0) _ lent
-      (λ none.
-      pick_ind (λ (v : ℕ). v ≡ cause) (not (length unit =? record_size)) 6 map_verdict
-      (λ other. sym (e ∙ sized_is ∙ pick_true _ _ _ none ∙ pick_true _ _ _ other))
-      (λ same. absurd (n (e ∙ sized_is ∙ pick_true _ _ _ none ∙ pick_false _ _ _ same))))
-      (λ some. sym (e ∙ sized_is ∙ pick_false _ _ _ some))
+  pub sized_long : sized_verdict ≡ 0 → length unit ≡ record_size
+  sized_long e = (sized e).1
 
-  pub refused_sized : (cause result : ℕ) → cause ≡ sized_verdict → (cause ≡ 0 → ⊥) → result ≡ result_of cause 0
-      → record { result = result; main = storage; store = store; unit = unit; answers = answers } ≡ host_call_of dev chain storage store unit answers
-  refused_sized cause result e n r = rw r (sym (host_refused dev chain storage store unit answers cause (refused_first cause e n) n))
+  -- a verdict of 1 to 6 is the call's
+  sized_given : (cause : ℕ) → cause ≡ sized_verdict → (cause ≡ 0 → ⊥) → first_of (host_causes dev chain storage store unit answers) ≡ cause
+  unfolding host_causes lent_causes
+  sized_given cause e n =
+      rw append_assoc at (first_append (sized_causes dev chain storage store unit answers) (map_causes dev store (map_of unit)) refl)
+      ∙ pick_false _ _ _ (ne_eqb _ _ (λ z. n (e ∙ z))) ∙ sym e
+
+  pub refused_sized : (cause : Cause) → cause_number cause ≡ sized_verdict
+      → host_call_of dev chain storage store unit answers ≡ record { result = result_of (cause_number cause) 0; main = storage; store = store; unit = unit; answers = answers }
+  refused_sized cause e = host_refused dev chain storage store unit answers _ (sized_given _ e (never_none cause)) (never_none cause)
 
   -- none of them holds
   module _ (passed : sized_verdict ≡ 0) where
@@ -149,9 +148,9 @@ module _ (dev : Device) (chain storage store unit answers : List ℕ) where
     unfolding pick
     behind_six = host_verdict dev chain storage store unit answers ∙ rw ((sized passed).0, eq-eqb _ _ whole)
 
-    pub refused_map : (cause : ℕ) → cause ≡ first_of (map_causes dev store map) → (cause ≡ 0 → ⊥)
-        → record { result = result_of cause 0; main = storage; store = store; unit = unit; answers = answers } ≡ host_call_of dev chain storage store unit answers
-    refused_map cause e n = sym (host_refused dev chain storage store unit answers cause (behind_six ∙ sym (rw (map_lent unit whole) at e)) n)
+    pub refused_map : (cause : Cause) → cause_number cause ≡ first_of (map_causes dev store map)
+        → host_call_of dev chain storage store unit answers ≡ record { result = result_of (cause_number cause) 0; main = storage; store = store; unit = unit; answers = answers }
+    refused_map cause e = host_refused dev chain storage store unit answers _ (behind_six ∙ sym (rw (map_lent unit whole) at e)) (never_none cause)
 
     pub may_run : first_of (map_causes dev store map) ≡ 0 → first_of (call_causes dev chain storage store map answers) ≡ 0
     unfolding call_causes lent_causes
@@ -172,3 +171,7 @@ module _ (dev : Device) (chain storage store unit answers : List ℕ) where
 pub reached_unique : (result cause r cause' q : ℕ) → result_of cause r ≡ result → result_of cause' q ≡ result → r ≤ 32 → q ≤ 32 → (cause ≡ cause') × (r ≡ q)
 unfolding result_of
 reached_unique result cause r cause' q e f l k = (omega arith, omega arith)
+
+-- the device of every call of ours
+pub usable : (d : Device) (n : ℕ) → d ≡ class_a n → Usable d
+usable d n e = rw e (class_a_usable n)

@@ -1,6 +1,5 @@
 pub mod Hosted
 pub mod Returned
-pub mod ClassCauses
 pub mod Marking
 pub mod MovedCalls
 pub mod ClassCalls

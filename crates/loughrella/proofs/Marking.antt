@@ -5,30 +5,32 @@
 --     Marking           those ahead, marked behind the results so far, are the whole class marked
 --     marking_none, marking_more, marked_all
 --                       before the first turn, after one more, and at the end
---     next_there, next_room
---                       what the next turn takes of the two buffers
+--     next_room         what the next turn takes of the results
 -- No contract cites this file.
 use Prim.Native.Nat.{ℕ, ◌+◌, ◌-◌, ◌/◌, ◌%◌, ◌≤◌, ◌<◌}
 use mathlib.Core.Path.{◌≡◌, refl, sym, ap, ◌∙◌}
-use mathlib.Core.Bool.{false}
+use mathlib.Core.Bool.{false, false≢true}
 use mathlib.Core.Option.{get_or}
 use mathlib.Core.List.{List, [], ◌∷◌, ◌++◌, append_assoc}
 use lib.ListN.{length, take, drop, set, length-drop, take-append-drop}
 use lib.Seq.{drop-drop}
 use native.Mathlib.Omega.{arith}
+use Rattle.std.specs.Prelude.{Result, Ok, Err, IfOk}
 use borrow.Rule.Slice.PartMut.{mid_of, put_mid}
 use Rattle.numbers.specs.Big.{be2, bytes2}
 use Rattle.slices.specs.Parts.{part, put}
 use Rattle.slices.proofs.Laws.{rest_lent, rest_back, length_put, take_put, drop_put, part_drop, length_part, part_lent, put_lent_whole}
+use Rattle.model.specs.declared.cause.Cause.{Cause}
 use Rattle.model.specs.declared.device.Device.{Device}
 use Rattle.model.specs.Rules.{first_of}
 use Rattle.model.specs.Host.{Hosted, result_of, host_call_of}
 use Rattle.model.specs.Class.{head_size, length_size, result_size, result_head, Marked, behind, mark_of, mark_each_of, chains_in, bad_class}
+use Rattle.model.specs.Told.{cause_number, told}
 use Rattle.model.proofs.Hosts.{result_reads}
-use Rattle.model.proofs.Class.{FirstIn, right_first, mark_next, chains_none}
+use Rattle.model.proofs.Class.{FirstIn, right_first, mark_next, chains_none, wrong_short}
+use Rattle.chain.specs.Outcome.{reached_in}
 use Rattle.loughrella.specs.Sized.{sized_causes}
 use Rattle.loughrella.proofs.Hosted.{refused_sized}
-use Rattle.loughrella.proofs.ClassCauses.{here, behind_it}
 
 pub head_put : (l : List ℕ) (cause reached : ℕ) → head_size ≤ length l → cause < 256 → reached ≤ 32
     → set (set (set (set l 0 0) 1 cause) 2 0) 3 reached ≡ (bytes2 cause ++ bytes2 reached) ++ drop head_size l
@@ -42,6 +44,15 @@ head_put (a ∷ b ∷ d ∷ e ∷ l) cause reached h c r =
     let high : reached / 256 % 256 ≡ 0 = omega arith in
     let low : reached % 256 ≡ reached = omega arith in
     rw (cause-high, cause-low, high, low)
+
+-- a class that is right ends with a chain
+right_none : (bytes : List ℕ) (lent : ℕ) → length bytes < length_size + be2 bytes 0 → bad_class (chains_in bytes) lent ≡ false → length bytes ≡ 0
+right_none [] lent h e = refl
+right_none (b ∷ bytes) lent h e = absurd (false≢true (sym e ∙ wrong_short (b ∷ bytes) lent (omega arith) h))
+
+few_in : (outcome : Result ℕ Cause) → IfOk outcome (λ reached. reached ≤ 32) → reached_in outcome ≤ 32
+few_in (Ok reached) few = few
+few_in (Err cause) few = omega arith
 
 module _ (dev : Device) (chain main store unit to : List ℕ) where
   -- the room, as it is lent
@@ -57,90 +68,75 @@ module _ (dev : Device) (chain main store unit to : List ℕ) where
       let reads = result_reads cause reached (omega arith) in
       rw (← called, g, r, reads.0, reads.1)
 
-  pub refused_marked : (cause : ℕ) (given : List ℕ) → cause ≡ first_of (sized_causes dev chain main store unit room) → (cause ≡ 0 → ⊥)
-      → given ≡ (bytes2 cause ++ bytes2 0) ++ drop head_size to
-      → record { main = main; store = store; unit = unit; results = given } ≡ mark_of dev chain main store unit to
-  refused_marked cause given e n g =
-      marked_as _ given cause 0 (refused_sized dev chain main store unit room cause _ e n refl) refl (omega arith)
-      (g ∙ ap (λ (l : List ℕ). (bytes2 cause ++ bytes2 0) ++ l) (sym (rest_lent to head_size)))
+  pub refused_marked : (cause : Cause) → cause_number cause ≡ first_of (sized_causes dev chain main store unit room)
+      → mark_of dev chain main store unit to ≡ record { main = main; store = store; unit = unit; results = (bytes2 (cause_number cause) ++ bytes2 0) ++ drop head_size to }
+  refused_marked cause e =
+      sym (marked_as _ _ (cause_number cause) 0 (sym (refused_sized dev chain main store unit room cause e)) refl (omega arith)
+      (ap (λ (l : List ℕ). (bytes2 (cause_number cause) ++ bytes2 0) ++ l) (sym (rest_lent to head_size))))
 
-  pub ran_marked : (cause reached : ℕ) (m s u a given : List ℕ) → record { result = result_of cause reached; main = m; store = s; unit = u; answers = a } ≡ host_call_of dev chain main store unit room → reached ≤ 32
-      → head_size ≤ length to
-      → given ≡ (bytes2 cause ++ bytes2 reached) ++ drop head_size (put_mid head_size (length to - head_size) to a)
-      → record { main = m; store = s; unit = u; results = given } ≡ mark_of dev chain main store unit to
-  ran_marked cause reached m s u a given e few enough g =
-      marked_as _ given cause reached e refl few (g ∙ ap (λ (l : List ℕ). (bytes2 cause ++ bytes2 reached) ++ l) (rest_back to a head_size enough))
+  pub ran_marked : (outcome : Result ℕ Cause) (m s u a : List ℕ)
+      → record { result = result_of (told outcome) (reached_in outcome); main = m; store = s; unit = u; answers = a } ≡ host_call_of dev chain main store unit room
+      → IfOk outcome (λ reached. reached ≤ 32) → head_size ≤ length to
+      → mark_of dev chain main store unit to
+      ≡ record { main = m; store = s; unit = u; results = (bytes2 (told outcome) ++ bytes2 (reached_in outcome)) ++ drop head_size (put_mid head_size (length to - head_size) to a) }
+  ran_marked outcome m s u a e few enough =
+      sym (marked_as _ _ (told outcome) (reached_in outcome) e refl (few_in outcome few)
+      (ap (λ (l : List ℕ). (bytes2 (told outcome) ++ bytes2 (reached_in outcome)) ++ l) (rest_back to a head_size enough)))
+
+abbrev marked : Device → List ℕ → List ℕ → List ℕ → List ℕ → List ℕ → Marked
+marked dev chains main store unit results = mark_each_of dev (get_or (chains_in chains) []) main store unit results
 
 -- the class as it was lent
 module _ (dev : Device) (chains main₀ store₀ unit₀ results₀ : List ℕ) where
-  abbrev marked_from : ℕ → List ℕ → List ℕ → List ℕ → List ℕ → Marked
-  marked_from at main store unit results = mark_each_of dev (get_or (chains_in (drop at chains)) []) main store unit results
-
-  pub record Marking (main store unit results : List ℕ) (at used : ℕ) : Type 0 where
-    pub inside : at ≤ length chains
+  -- with these bytes ahead, and so much of the results used
+  pub record Marking (ahead main store unit results : List ℕ) (used : ℕ) : Type 0 where
     pub room : used ≤ length results
-    pub right : bad_class (chains_in (drop at chains)) (length results - used) ≡ false
-    pub same : behind (take used results) (marked_from at main store unit (drop used results)) ≡ marked_from 0 main₀ store₀ unit₀ results₀
+    pub right : bad_class (chains_in ahead) (length results - used) ≡ false
+    pub same : behind (take used results) (marked dev ahead main store unit (drop used results)) ≡ marked dev chains main₀ store₀ unit₀ results₀
 
-  pub marking_none : bad_class (chains_in chains) (length results₀) ≡ false → Marking main₀ store₀ unit₀ results₀ 0 0
+  pub marking_none : bad_class (chains_in chains) (length results₀) ≡ false → Marking chains main₀ store₀ unit₀ results₀ 0
   marking_none right =
       let all : length results₀ - 0 ≡ length results₀ = omega arith in
-      record { inside = omega arith; room = omega arith; right = rw all right; same = refl }
+      record { room = omega arith; right = rw all right; same = refl }
 
-  module _ (main store unit results : List ℕ) (at used : ℕ) (k : Marking main store unit results at used) where
-    pub marked_all : length chains ≤ at → record { main = main; store = store; unit = unit; results = results } ≡ marked_from 0 main₀ store₀ unit₀ results₀
+  module _ (ahead main store unit results : List ℕ) (used : ℕ) (k : Marking ahead main store unit results used) where
+    -- no chain is ahead
+    pub marked_all : length ahead < length_size + be2 ahead 0 → record { main = main; store = store; unit = unit; results = results } ≡ marked dev chains main₀ store₀ unit₀ results₀
     unfolding mark_each_of
-    marked_all h =
-        let none_left : length (drop at chains) ≡ 0 = omega (arith, length-drop at chains) in
-        rw (chains_none (drop at chains) none_left, take-append-drop used results) at k.same
+    marked_all h = rw (chains_none ahead (right_none ahead _ h k.right), take-append-drop used results) at k.same
 
-    module _ (some : at < length chains) where
-      some_ahead : 0 < length (drop at chains)
-      some_ahead = omega (arith, length-drop at chains)
-
-      begins : FirstIn (drop at chains) (length results - used)
-      begins = right_first (drop at chains) (length results - used) some_ahead k.right
-
-      -- the next chain is there, and so is room for its result
-      pub next_there : at + length_size + be2 chains at ≤ length chains
-      next_there =
-          let b : length_size + be2 chains at ≤ length chains - at = rw (length-drop at chains, here chains at) at begins.there in
-          omega (arith, b)
+    module _ (there : length_size + be2 ahead 0 ≤ length ahead) where
+      begins : FirstIn ahead (length results - used)
+      begins = right_first ahead (length results - used) (omega (arith, there)) k.right
 
       abbrev size : ℕ
-      size = result_size (be2 chains at)
+      size = result_size (be2 ahead 0)
 
       pub next_room : used + size ≤ length results
-      next_room =
-          let b : size ≤ length results - used = rw (here chains at) at begins.room in
-          omega (arith, b, k.room)
+      next_room = omega (arith, begins.room, k.room)
 
       marked_next : (m s u back : List ℕ)
-          → record { main = m; store = s; unit = u; results = back } ≡ mark_of dev (part chains (at + length_size) (be2 chains at)) main store unit (part results used size)
-          → length back ≡ size → Marking m s u (put results used back) (at + length_size + be2 chains at) (used + size)
+          → record { main = m; store = s; unit = u; results = back } ≡ mark_of dev (part ahead length_size (be2 ahead 0)) main store unit (part results used size)
+          → length back ≡ size → Marking (drop (length_size + be2 ahead 0) ahead) m s u (put results used back) (used + size)
       unfolding part
       marked_next m s u back e long =
           let kept : length (put results used back) ≡ length results = length_put results used back (omega (arith, next_room, long)) in
           let left : length (put results used back) - (used + size) ≡ length results - used - size = omega (arith, kept) in
-          let next = mark_next (drop at chains) (length results - used) some_ahead k.right dev main store unit (drop used results) in
-          let marked = rw (behind_it chains at, here chains at, part_drop chains at length_size (be2 chains at), ← e) at next in
+          let next = mark_next ahead (length results - used) (omega (arith, there)) k.right dev main store unit (drop used results) in
+          let marked_so = rw (← e) at next in
           record {
-            inside = next_there;
             room = omega (arith, kept, next_room);
-            right = rw left (rw (behind_it chains at, here chains at) at begins.right);
-            same = rw (take_put results used back size long next_room, drop_put results used back size long next_room, ← (drop-drop size used results), append_assoc) (rw marked at k.same);
+            right = rw left begins.right;
+            same = rw (take_put results used back size long next_room, drop_put results used back size long next_room, ← (drop-drop size used results), append_assoc) (rw marked_so at k.same);
           }
 
-      -- as the code lends the two
-      module _ (len n : ℕ) (le : len ≡ be2 chains at) (ln : n ≡ result_size len) where
-        abbrev lent_chain : List ℕ
-        lent_chain = mid_of (at + length_size) (at + length_size + len - (at + length_size)) chains
-
+      -- as the code lends the room
+      module _ (n : ℕ) (ln : n ≡ size) where
         abbrev lent_room : List ℕ
         lent_room = mid_of used (used + n - used) results
 
         enough : used + n ≤ length results
-        enough = rw (ln, le) next_room
+        enough = rw ln next_room
 
         lent_long : length lent_room ≡ n
         lent_long = rw (part_lent results used n) (length_part results used n enough)
@@ -149,9 +145,9 @@ module _ (dev : Device) (chains main₀ store₀ unit₀ results₀ : List ℕ) 
         unfolding result_size
         head_fits = rw lent_long (omega (arith, ln))
 
-        pub marking_more : (m s u back : List ℕ) → record { main = m; store = s; unit = u; results = back } ≡ mark_of dev lent_chain main store unit lent_room
-            → length back ≡ length lent_room → Marking m s u (put_mid used (used + n - used) results back) (at + length_size + len) (used + n)
+        pub marking_more : (m s u back : List ℕ) → record { main = m; store = s; unit = u; results = back } ≡ mark_of dev (part ahead length_size (be2 ahead 0)) main store unit lent_room
+            → length back ≡ length lent_room → Marking (drop (length_size + be2 ahead 0) ahead) m s u (put_mid used (used + n - used) results back) (used + n)
         marking_more m s u back e long =
             let whole = put_lent_whole results back used n long enough in
-            let marked = rw (part_lent chains (at + length_size) len, part_lent results used n, ln, le) at e in
-            rw (whole, ln, le) (marked_next m s u back marked (long ∙ lent_long ∙ ln ∙ ap result_size le))
+            let marked_so = rw (part_lent results used n, ln) at e in
+            rw (whole, ln) (marked_next m s u back marked_so (long ∙ lent_long ∙ ln))

@@ -1,7 +1,7 @@
 -- An alternate given back from C, from what the library looked at and what it did.
 --     device_long      none of 2, 6 and 8 holds: there are 290 bytes of record
 --     device_mounted   and the device may be worked on, with the map as it is lent
---     device_first     the first of 2, 6 and 8 is the call's cause; return_first   and where there is none, that of 50 and 51
+--     give_back_first  the first of 2, 6 and 8 is the call's cause; give_back_then   and where there is none, that of 50 and 51
 --     device_passed    none of the five holds: none of 2, 6 and 8 does; returned_on   and the block is the device's, and mapped
 --     refused_return   one of the five holds: refused, and nothing changed
 --     done_return      none does, and the store and the map that were made are those of the definition
@@ -14,6 +14,7 @@ use native.Mathlib.Omega.{arith}
 use borrow.Author.Tests.{eqb-true, eq-eqb, ne_eqb, not-false}
 use Rattle.numbers.specs.Choice.{◌=?◌, pick}
 use Rattle.numbers.proofs.Choice.{pick_true, pick_false}
+use Rattle.model.specs.declared.cause.Cause.{Cause}
 use Rattle.model.specs.declared.device.Device.{Device}
 use Rattle.model.specs.Rules.{first_of}
 use Rattle.model.specs.Alternates.{alternate_of, unmapped}
@@ -22,9 +23,11 @@ use Rattle.model.specs.Causes.{map_causes, device_causes, return_causes, give_ba
 use Rattle.model.specs.Host.{result_of}
 use Rattle.model.specs.GiveBack.{brought_home, give_back_of}
 use Rattle.model.specs.Safe.{Usable, Mounted}
+use Rattle.model.specs.Told.{cause_number}
 use Rattle.model.proofs.Verdicts.{first_append, failed_upto, failed_all, none_given}
 use Rattle.model.proofs.Endings.{right_store}
 use Rattle.model.proofs.GiveBack.{returnable, give_back_refused, give_back_done}
+use Rattle.chain.proofs.Passed.{never_none, refused_first, passed_first}
 use Rattle.loughrella.proofs.Hosted.{lent_map, with_map, map_lent, map_whole, map_stored}
 
 module _ (dev : Device) (store unit : List ℕ) where
@@ -47,19 +50,18 @@ module _ (dev : Device) (store unit : List ℕ) where
     abbrev verdict : ℕ
     verdict = first_of (give_back_causes dev store unit block)
 
-    in_turn : verdict ≡ pick (device_verdict =? 0) (first_of (return_causes dev store (map_of unit) block)) device_verdict
+    pub give_back_first : (cause : Cause) → cause_number cause ≡ device_verdict → verdict ≡ cause_number cause
     unfolding give_back_causes device_causes map_causes
-    in_turn = first_append (device_causes dev store unit) (return_causes dev store (map_of unit) block) refl
+    give_back_first cause e = refused_first (device_causes dev store unit) (return_causes dev store (map_of unit) block) refl cause e
 
-    pub device_first : (cause : ℕ) → cause ≡ device_verdict → (cause ≡ 0 → ⊥) → cause ≡ verdict
-    device_first cause e n = sym (in_turn ∙ rw (← e) (pick_false _ _ _ (ne_eqb _ _ n)))
+    pub give_back_then : 0 ≡ device_verdict → verdict ≡ first_of (return_causes dev store (lent_map unit) block)
+    unfolding give_back_causes device_causes map_causes
+    give_back_then passed =
+        rw (map_lent unit (device_long (sym passed))) (passed_first (device_causes dev store unit) (return_causes dev store (map_of unit) block) refl passed)
 
-    pub return_first : (cause : ℕ) → device_verdict ≡ 0 → cause ≡ first_of (return_causes dev store (lent_map unit) block) → cause ≡ verdict
-    return_first cause passed e = rw (map_lent unit (device_long passed)) at e ∙ sym (in_turn ∙ pick_true _ _ _ (eq-eqb _ _ passed))
-
-    pub refused_return : (cause result : ℕ) → cause ≡ verdict → (cause ≡ 0 → ⊥) → result ≡ result_of cause 0
-        → record { result = result; store = store; unit = unit } ≡ give_back_of dev store unit block
-    refused_return cause result e n r = rw r (sym (give_back_refused dev store unit block cause (sym e) n))
+    pub refused_return : (cause : Cause) → cause_number cause ≡ verdict
+        → give_back_of dev store unit block ≡ record { result = result_of (cause_number cause) 0; store = store; unit = unit }
+    refused_return cause e = give_back_refused dev store unit block _ (sym e) (never_none cause)
 
     -- none of the five holds
     module _ (passed : verdict ≡ 0) where

@@ -1,12 +1,16 @@
 // A class: the chains of one buffer, each after its length, and their results in another, each of a size that the length gives.
 // `class_wrong` is cause 7's test, `mark_each` runs the chains of a class that it passed.
-ghost use Rattle.std.specs.Prelude.{◌≡◌, false, [], ◌++◌, ◌≤◌, ◌<◌, length, drop};
+ghost use Rattle.std.specs.Prelude.{◌≡◌, false, [], ◌++◌, ◌+◌, ◌≤◌, ◌<◌, length, drop, IfOk, IfSome, MatchOption};
 ghost use Rattle.std.proofs.Math.Option.{get_or};
-ghost use Rattle.numbers.specs.Big.{bytes2};
-ghost use Rattle.model.specs.Class.{head_size, result_size, chains_in, bad_class, mark_of, mark_each_of};
+ghost use Rattle.numbers.specs.Big.{be2, bytes2};
+ghost use Rattle.slices.specs.Parts.{part};
+ghost use Rattle.model.specs.Class.{length_size, head_size, result_size, chains_in, bad_class, mark_of, mark_each_of};
 ghost use Rattle.model.specs.Safe.{Usable};
+ghost use Rattle.model.specs.Told.{told};
+ghost use Rattle.chain.specs.Outcome.{reached_in};
 
 use crate::host::{host_cause, run_hosted};
+use model::cause::Cause;
 use model::device::Device;
 use model::sizes;
 use numbers::be2;
@@ -18,6 +22,7 @@ const LENGTH: usize = 2;
 const ANSWERS: usize = 4;
 
 // What the result of a chain of this length takes: room for an answer for each 8 bytes of it, rounded up.
+#[tactic(auto, unfolding(model::specs::Class::result_size))]
 fn result_size(len: usize) -> usize
     requires { len < 65536 }
     ensures { result ≡ result_size len }
@@ -25,40 +30,51 @@ fn result_size(len: usize) -> usize
     ANSWERS + (len + 7) / sizes::CCW * sizes::ANSWER
 }
 
+// The first chain of a class and what is behind it, where its length and the whole chain are there.
+#[tactic(auto, unfolding(slices::specs::Parts::part))]
+fn split_chain(class: &[u8]) -> Option<(&[u8], &[u8])>
+    ensures cut { MatchOption result (length class.now < length_size + be2 class.now 0) (λ _. length_size + be2 class.now 0 ≤ length class.now) }
+    ensures chain { IfSome result (λ p. p.0.now ≡ part class.now length_size (be2 class.now 0)) }
+    ensures length { IfSome result (λ p. (length p.0.now ≡ be2 class.now 0) × (length p.0.now < 65536)) }
+    ensures behind { IfSome result (λ p. p.1.now ≡ drop (length_size + be2 class.now 0) class.now) }
+{
+    if class.len() < LENGTH {
+        return None;
+    }
+    class[LENGTH..].split_at_checked(be2(class, 0))
+}
+
 // Whether the lengths do not end at the buffer's end, or the results are shorter than all that room.
+#[tactic(auto, using(model::proofs::Class::right_end, model::proofs::Class::wrong_short, model::proofs::Class::wrong_room, model::proofs::Class::wrong_next, slices::proofs::Laws::length_part))]
 pub fn class_wrong(chains: &[u8], lent: usize) -> bool
     ensures { result ≡ bad_class (chains_in chains.now) lent }
 {
-    let end = chains.len();
-    let mut at = 0;
+    let mut ahead = chains;
     let mut left = lent;
-    while at < end {
-        if end - at < LENGTH {
+    while !ahead.is_empty() {
+        let Some((chain, behind)) = split_chain(ahead) else {
             return true;
-        }
-        let len = be2(chains, at);
-        if end - at < LENGTH + len {
-            return true;
-        }
-        let size = result_size(len);
+        };
+        let size = result_size(chain.len());
         if left < size {
             return true;
         }
-        at += LENGTH + len;
+        ahead = behind;
         left -= size;
     }
     false
 }
 
 // The cause and the number of answers go to the front of a result.
-fn put_head(cause: u8, reached: usize, to: &mut [u8])
-    requires { (reached ≤ 32) × (head_size ≤ length to.old) }
-    ensures { to.new ≡ (bytes2 cause ++ bytes2 reached) ++ drop head_size to.old }
+fn put_head(outcome: Result<usize, Cause>, to: &mut [u8])
+    requires { IfOk outcome (λ reached. reached ≤ 32) × (head_size ≤ length to.old) }
+    ensures { to.new ≡ (bytes2 (told outcome) ++ bytes2 (reached_in outcome)) ++ drop head_size to.old }
 {
-    to[0] = 0;
-    to[1] = cause;
-    to[2] = 0;
-    to[3] = reached as u8;
+    let (cause, reached) = match outcome {
+        Ok(reached) => (0, reached as u8),
+        Err(cause) => (u8::from(cause), 0),
+    };
+    to[..ANSWERS].copy_from_slice(&[0, cause, 0, reached]);
 }
 
 // One chain is run; `to` is its part of the results.
@@ -74,13 +90,12 @@ fn mark(
     ensures { record { main = storage.new; store = store.new; unit = unit.new; results = to.new }
         ≡ mark_of d chain.now storage.old store.old unit.old to.old }
 {
-    let cause = host_cause(d, chain, storage, store, unit, &to[ANSWERS..]);
-    if cause != 0 {
-        put_head(cause, 0, to);
+    if let Err(cause) = host_cause(d, chain, storage, store, unit, &to[ANSWERS..]) {
+        put_head(Err(cause), to);
         return;
     }
-    let reached = run_hosted(d, chain, storage, store, unit, &mut to[ANSWERS..]);
-    put_head(reached.cause, reached.answers, to);
+    let outcome = run_hosted(d, chain, storage, store, unit, &mut to[ANSWERS..]);
+    put_head(outcome, to);
 }
 
 // The chains of a class that is right are run, one after the other.
@@ -96,22 +111,12 @@ pub fn mark_each(
     ensures { record { main = storage.new; store = store.new; unit = unit.new; results = results.new }
         ≡ mark_each_of d (get_or (chains_in chains.now) []) storage.old store.old unit.old results.old }
 {
-    let mut at = 0;
+    let mut ahead = chains;
     let mut used = 0;
-    while at < chains.len() {
-        let len = be2(chains, at);
-        let from = at + LENGTH;
-        let to = from + len;
-        let end = used + result_size(len);
-        mark(
-            d,
-            &chains[from..to],
-            storage,
-            store,
-            unit,
-            &mut results[used..end],
-        );
-        at = to;
+    while let Some((chain, behind)) = split_chain(ahead) {
+        let end = used + result_size(chain.len());
+        mark(d, chain, storage, store, unit, &mut results[used..end]);
+        ahead = behind;
         used = end;
     }
 }

@@ -7,57 +7,60 @@ ghost use Rattle.model.specs.Lent.{block_count};
 ghost use Rattle.model.specs.Causes.{device_causes, return_causes, give_back_causes};
 ghost use Rattle.model.specs.GiveBack.{brought_home};
 ghost use Rattle.model.specs.Safe.{Usable, Mounted};
+ghost use Rattle.model.specs.Told.{told};
 
 use alternates::{alternate_of, entries_wrong, unmap};
 use blocks::{block_count, bring_home};
 use chain::causes::store_wrong;
+use model::cause::Cause;
 use model::device::Device;
 use model::sizes;
 
-// The first of causes 2, 6 and 8 that holds of a device as it is lent, or 0.
-fn device_cause(d: Device, store: &[u8], unit: &[u8]) -> u8
+// The first of causes 2, 6 and 8 that holds of a device as it is lent.
+#[tactic(auto, using(crate::proofs::Hosted::map_lent), unfolding(model::specs::Causes::device_causes, model::specs::Causes::map_causes, model::specs::Rules::first_of, numbers::specs::Choice::pick))]
+fn device_cause(d: Device, store: &[u8], unit: &[u8]) -> Result<(), Cause>
     requires { Usable d }
-    ensures { result ≡ first_of (device_causes d store.now unit.now) }
+    ensures { told result ≡ first_of (device_causes d store.now unit.now) }
 {
     if store_wrong(d, store) {
-        return 2;
+        return Err(Cause::BadStore);
     }
     if unit.len() != sizes::UNIT_RECORD {
-        return 6;
+        return Err(Cause::BadRecord);
     }
     if entries_wrong(d.alternates, block_count(d, store), &unit[sizes::RECORD..]) {
-        return 8;
+        return Err(Cause::BadMap);
     }
-    0
+    Ok(())
 }
 
-// The first of causes 50 and 51 that holds of a block, or 0.
-fn return_cause(d: Device, store: &[u8], map: &[u8], block: usize) -> u8
+// The first of causes 50 and 51 that holds of a block.
+#[tactic(auto, using(model::proofs::Blocks::mounted_alternates, model::proofs::Blocks::mounted_primaries), unfolding(model::specs::Rules::first_of, numbers::specs::Choice::pick))]
+fn return_cause(d: Device, store: &[u8], map: &[u8], block: usize) -> Result<(), Cause>
     requires { Mounted d store.now map.now }
-    ensures { result ≡ first_of (return_causes d store.now map.now block) }
+    ensures { told result ≡ first_of (return_causes d store.now map.now block) }
 {
     if block_count(d, store) <= block {
-        return 50;
+        return Err(Cause::PastBlocks);
     }
     if d.alternates <= alternate_of(d.alternates, map, block) {
-        return 51;
+        return Err(Cause::NotMapped);
     }
-    0
+    Ok(())
 }
 
-// The first of causes 2, 6, 8, 50 and 51 that holds, or 0.
-pub fn give_back_cause(d: Device, store: &[u8], unit: &[u8], block: usize) -> u8
+// The first of causes 2, 6, 8, 50 and 51 that holds.
+#[tactic(auto, using(crate::proofs::Returned::give_back_first, crate::proofs::Returned::give_back_then, crate::proofs::Returned::device_long, crate::proofs::Returned::device_mounted))]
+pub fn give_back_cause(d: Device, store: &[u8], unit: &[u8], block: usize) -> Result<(), Cause>
     requires { Usable d }
-    ensures { result ≡ first_of (give_back_causes d store.now unit.now block) }
+    ensures { told result ≡ first_of (give_back_causes d store.now unit.now block) }
 {
-    let cause = device_cause(d, store, unit);
-    if cause != 0 {
-        return cause;
-    }
+    device_cause(d, store, unit)?;
     return_cause(d, store, &unit[sizes::RECORD..], block)
 }
 
 // The block, which is mapped, has its own place back. First the store: where the data lies, the map tells.
+#[tactic(auto, using(model::proofs::Blocks::mounted_primaries))]
 pub fn give_back(d: Device, store: &mut [u8], map: &mut [u8], block: usize)
     requires { Mounted d store.old map.old × (block < block_count d store.old) × (alternate_of map.old d.alternates block < d.alternates) }
     ensures store { store.new ≡ brought_home d map.old store.old block }

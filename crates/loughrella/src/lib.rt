@@ -15,12 +15,14 @@ use crate::class::{class_wrong, mark_each};
 use crate::give_back::{give_back, give_back_cause};
 use crate::host::{host_cause, run_hosted};
 use chain::call::result_of;
+use model::cause::Cause;
 use model::device::Device;
 use model::sizes;
 use record::{new_record, pack};
 use slices::clear;
 
 // The chain is run. 256 times the cause plus the commands reached.
+#[tactic(auto, using(crate::proofs::Hosted::refused_sized))]
 pub fn loughrella_run(
     chain: &[u8],
     storage: &mut [u8],
@@ -33,15 +35,14 @@ pub fn loughrella_run(
         ≡ host_call alternates chain.now storage.old store.old unit.old answers.old }
 {
     let d = Device::class_a(alternates);
-    let cause = host_cause(d, chain, storage, store, unit, answers);
-    if cause != 0 {
-        return result_of(cause, 0);
+    if let Err(cause) = host_cause(d, chain, storage, store, unit, answers) {
+        return result_of(Err(cause));
     }
-    let reached = run_hosted(d, chain, storage, store, unit, answers);
-    result_of(reached.cause, reached.answers)
+    result_of(run_hosted(d, chain, storage, store, unit, answers))
 }
 
 // A class is run: the chains of one buffer, one after the other. 0, or 256 times 7.
+#[tactic(auto, using(model::proofs::Class::class_refused, model::proofs::Class::class_right), unfolding(model::specs::Host::result_of))]
 pub fn loughrella_run_class(
     chains: &[u8],
     storage: &mut [u8],
@@ -54,7 +55,7 @@ pub fn loughrella_run_class(
         ≡ run_class alternates chains.now storage.old store.old unit.old results.old }
 {
     if class_wrong(chains, results.len()) {
-        return result_of(7, 0);
+        return result_of(Err(Cause::BadClass));
     }
     mark_each(
         Device::class_a(alternates),
@@ -72,7 +73,7 @@ pub fn loughrella_record(unit: &mut [u8], ready: u8, read_only: u8) -> u32
     ensures { record { result = result; unit = unit.new } ≡ set_up unit.old ready read_only }
 {
     if unit.len() != sizes::UNIT_RECORD {
-        return result_of(6, 0);
+        return result_of(Err(Cause::BadRecord));
     }
     pack(new_record(ready, read_only), &mut unit[..sizes::RECORD]);
     clear(&mut unit[sizes::RECORD..]);
@@ -80,14 +81,14 @@ pub fn loughrella_record(unit: &mut [u8], ready: u8, read_only: u8) -> u32
 }
 
 // The alternate of a block is given back. 0, or 256 times the cause.
+#[tactic(auto, using(crate::proofs::Returned::refused_return, crate::proofs::Returned::device_passed, crate::proofs::Returned::device_long))]
 pub fn loughrella_give_back(store: &mut [u8], alternates: u32, unit: &mut [u8], block: u32) -> u32
     ensures { record { result = result; store = store.new; unit = unit.new } ≡ give_back alternates store.old unit.old block }
 {
-    let device = Device::class_a(alternates);
-    let refusal = give_back_cause(device, store, unit, block as usize);
-    if refusal != 0 {
-        return result_of(refusal, 0);
+    let d = Device::class_a(alternates);
+    if let Err(cause) = give_back_cause(d, store, unit, block as usize) {
+        return result_of(Err(cause));
     }
-    give_back(device, store, &mut unit[sizes::RECORD..], block as usize);
+    give_back(d, store, &mut unit[sizes::RECORD..], block as usize);
     0
 }

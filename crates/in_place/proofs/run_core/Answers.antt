@@ -1,6 +1,5 @@
 -- `in_place::run_core` meets its contract. The call's equation, with cause and commands reached in one number; they fit, since at most 32 commands are reached. Assumes nothing.
-use borrow.Author.Tests.{eqb-false}
-use Rattle.model.proofs.Told.{refused_told}
+use Rattle.chain.proofs.Passed.{never_none}
 use Rattle.in_place.proofs.Reached.{reached_few, map_kept, gives_outcome}
 use Rattle.in_place.proofs.run_core.Goals as goal
 
@@ -18,5 +17,5 @@ pub returns-in-Err : goal.returns-in-Err
 returns-in-Err c =
     let args = c.args in
     let refused = rw c.class_a.ensures at c.in-Err.ensures in
-    let kept = map_kept args.alternates args.chain.now args.storage.now args.store.now args.r.unit args.r.map args.answers.now _ refused (eqb-false _ _ (refused_told c.in-Err.cause)) in
+    let kept = map_kept args.alternates args.chain.now args.storage.now args.store.now args.r.unit args.r.map args.answers.now _ refused (never_none c.in-Err.cause) in
     record { is = rw kept at (gives_outcome args.r args.alternates args.chain.now args.storage.now args.store.now args.answers.now _ _ refused c.result_of-in-Err.ensures) }
