@@ -4,13 +4,15 @@
 --     passed_first            where the first one gives none, the second one's verdict is
 --     call_first, call_map    so it is of causes 1 to 5, and of 8 behind them
 --     refused_call            a call that one of them refuses
+--     call_few                a call, refused or not, reaches 32 commands at most
 -- No contract cites this file.
-use Prim.Native.Nat.{ℕ}
+use Prim.Native.Nat.{ℕ, ◌≤◌}
 use mathlib.Core.Path.{◌≡◌, refl, sym, ◌∙◌}
-use mathlib.Core.Bool.{true}
+use mathlib.Core.Bool.{Bool, true, false}
 use mathlib.Core.List.{List, ◌++◌}
-use borrow.Author.Tests.{eqb-false}
-use Rattle.numbers.specs.Choice.{pick}
+use native.Mathlib.Omega.{arith}
+use borrow.Author.Tests.{eqb-true, eqb-false}
+use Rattle.numbers.specs.Choice.{◌=?◌, pick}
 use Rattle.model.specs.declared.cause.Cause.{Cause}
 use Rattle.model.specs.declared.device.Device.{Device}
 use Rattle.model.specs.declared.record.Record.{Record}
@@ -19,6 +21,7 @@ use Rattle.model.specs.Chain.{call_of}
 use Rattle.model.specs.Exactly.{absent}
 use Rattle.model.specs.Rules.{Rule, first_of}
 use Rattle.model.specs.Told.{cause_number}
+use Rattle.model.proofs.Endings.{callable, call_reached}
 use Rattle.model.proofs.Refusals.{call_refused}
 use Rattle.model.proofs.Told.{refused_told}
 use Rattle.model.proofs.Verdicts.{first_append}
@@ -48,3 +51,10 @@ module _ (dev : Device) (chain main store map answers : List ℕ) where
   pub refused_call : (u : Record) (cause : Cause) → cause_number cause ≡ first_of (call_causes dev chain main store map answers)
       → call_of dev chain main store u map answers ≡ record { cause = cause_number cause; reached = 0; unit = u; map = map; main = main; store = store; answers = answers }
   refused_call u cause e = call_refused dev chain main store u map answers _ (sym e) (never_none cause)
+
+  pub call_few : (u : Record) → (call_of dev chain main store u map answers).reached ≤ 32
+  call_few u = go (first_of (call_causes dev chain main store map answers) =? 0) refl
+    where
+      go : (b : Bool) → first_of (call_causes dev chain main store map answers) =? 0 ≡ b → (call_of dev chain main store u map answers).reached ≤ 32
+      go true e = omega (arith, (callable dev chain main store map answers (eqb-true _ _ e)).few, (call_reached dev chain main store u map answers).1)
+      go false e = rw (call_refused dev chain main store u map answers _ refl (eqb-false _ _ e)) (omega arith)

@@ -1,11 +1,7 @@
 -- A call gives at most 32 answers, a refused one leaves the map, and what it gave is the outcome. No contract cites this file.
 use Prim.Native.Nat.{ℕ, ◌≤◌}
-use mathlib.Core.Path.{◌≡◌, refl, sym, ap, ◌∙◌}
-use mathlib.Core.Bool.{Bool, true, false}
+use mathlib.Core.Path.{◌≡◌, sym, ap, ◌∙◌}
 use mathlib.Core.List.{List}
-use lib.Dec.{eqb}
-use native.Mathlib.Omega.{arith}
-use borrow.Author.Tests.{eqb-true, eqb-false}
 use Rattle.model.specs.declared.record.Record.{Record}
 use Rattle.model.specs.declared.record.UnitRecord.{UnitRecord}
 use Rattle.model.specs.Rules.{first_of}
@@ -13,19 +9,12 @@ use Rattle.model.specs.Causes.{call_causes}
 use Rattle.model.specs.Chain.{Called, call_of, call, class_a}
 use Rattle.model.specs.Host.{result_of}
 use Rattle.model.proofs.Refusals.{call_refused}
-use Rattle.model.proofs.Endings.{callable, call_reached}
+use Rattle.chain.proofs.Passed.{call_few}
 use Rattle.in_place.specs.Run.{given, outcome}
 
 module _ (alternates : ℕ) (chain main store : List ℕ) (u : Record) (map answers : List ℕ) where
-  few_reached : (call alternates chain main store u map answers).reached ≤ 32
-  few_reached = go (eqb (first_of (call_causes (class_a alternates) chain main store map answers)) 0) refl
-    where
-      go : (b : Bool) → eqb (first_of (call_causes (class_a alternates) chain main store map answers)) 0 ≡ b → (call alternates chain main store u map answers).reached ≤ 32
-      go true e = omega (arith, (callable (class_a alternates) chain main store map answers (eqb-true _ _ e)).few, (call_reached (class_a alternates) chain main store u map answers).1)
-      go false e = rw (call_refused (class_a alternates) chain main store u map answers _ refl (eqb-false _ _ e)) (omega arith)
-
   pub reached_few : (c : Called) → c ≡ call alternates chain main store u map answers → c.reached ≤ 32
-  reached_few c e = rw e few_reached
+  reached_few c e = rw e (call_few (class_a alternates) chain main store map answers u)
 
   -- a refused call leaves the map as it was
   pub map_kept : (c : Called) → c ≡ call alternates chain main store u map answers → (c.cause ≡ 0 → ⊥) → c.map ≡ map

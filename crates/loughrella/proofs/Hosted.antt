@@ -6,41 +6,40 @@
 --     sized_first, sized_record
 --                      the first of 1 to 6: that of 1 to 5, or where there is none, 6 by the length of the record
 --     record_taken     the record stands in the first 34 bytes; new_stored   and one that is set up
---     sized, sized_long
---                      none of them holds: none of 1 to 5 does, and there are 290 bytes of record
+--     sized, sized_long, sized_primary
+--                      none of them holds: none of 1 to 5 does, there are 290 bytes of record, and a primary
+--     front_long       a map that comes back leaves the first 34 bytes where they were
 --     refused_sized, refused_map
 --                      one of them holds, or 8 does: refused, and nothing changed
 --     may_run          none does, and the call may run
 --     ran_hosted       the run on the record that the bytes hold, and what it left packed again
---     few_hosted       the commands reached fit their number
 --     usable           the device of every call of ours may be used
 --     reached_unique   what `run_hosted` promises allows one result
 -- No contract cites this file.
-use Prim.Native.Nat.{ℕ, ◌+◌, ◌-◌, ◌≤◌}
+use Prim.Native.Nat.{ℕ, ◌+◌, ◌-◌, ◌≤◌, ◌<◌}
 use mathlib.Core.Path.{◌≡◌, refl, sym, ap, ◌∙◌}
-use mathlib.Core.Bool.{not}
-use mathlib.Core.List.{List, [], ◌∷◌, ◌++◌, append_assoc}
+use mathlib.Core.List.{List, ◌++◌, append_assoc}
 use lib.ListN.{length, take, drop, length-drop, take-append-drop}
 use lib.Seq.{take-take, take_all, take_at, length-take-le, get_or-take}
 use native.Mathlib.Omega.{arith}
 use borrow.Author.Tests.{eq-eqb, ne_eqb, eqb-true, not-false}
-use borrow.Rule.Slice.PartMut.{mid_of, put_mid}
-use Rattle.numbers.specs.Choice.{◌=?◌, pick}
-use Rattle.numbers.proofs.Choice.{pick_ind, pick_true, pick_false}
+use borrow.Rule.Slice.PartMut.{mid_of, put_mid, same_len_mid}
+use Rattle.numbers.specs.Choice.{pick}
+use Rattle.numbers.proofs.Choice.{pick_true, pick_false}
 use Rattle.slices.specs.Parts.{zeros, part, put, pad}
 use Rattle.slices.proofs.Laws.{rest_lent, rest_back, drop_take, pad_cleared}
 use Rattle.model.specs.declared.cause.Cause.{Cause}
 use Rattle.model.specs.declared.device.Device.{Device}
-use Rattle.model.specs.Rules.{◌when◌, first_of}
+use Rattle.model.specs.Rules.{first_of}
 use Rattle.model.specs.Alternates.{map_size}
-use Rattle.model.specs.Lent.{map_place, record_size, unit_bytes, record_bytes, record_of, map_of, new_map}
+use Rattle.model.specs.Lent.{map_place, store_blocks, record_size, unit_bytes, record_bytes, record_of, map_of, new_map}
 use Rattle.model.specs.Causes.{lent_causes, record_causes, map_causes, call_causes, host_causes}
-use Rattle.model.specs.Chain.{Called, call_of, class_a}
+use Rattle.model.specs.Chain.{call_of, class_a}
 use Rattle.model.specs.Host.{result_of, hosted, host_call_of}
 use Rattle.model.specs.Safe.{Usable}
 use Rattle.model.specs.Told.{cause_number}
 use Rattle.model.proofs.Verdicts.{first_append, failed_upto, failed_all, none_given}
-use Rattle.model.proofs.Endings.{callable, call_reached}
+use Rattle.model.proofs.Endings.{lent_primary}
 use Rattle.model.proofs.Refusals.{host_refused}
 use Rattle.model.proofs.Records.{record_front}
 use Rattle.model.proofs.Safety.{class_a_usable}
@@ -98,6 +97,12 @@ module _ (unit : List ℕ) (whole : length unit ≡ record_size) where
   pub map_stored : (map : List ℕ) → with_map unit map ≡ record_bytes (record_of unit) map
   map_stored map = sym (take-append-drop map_place (with_map unit map)) ∙ rw (front_kept map, map_behind map, record_front unit (omega (arith, whole)))
 
+-- a map of its length put in the place of its own leaves the front its length
+pub front_long : (unit map' : List ℕ) → length unit ≡ record_size → length map' ≡ length (lent_map unit) → length (take map_place (with_map unit map')) ≡ map_place
+front_long unit map' l e =
+    let kept : length (with_map unit map') ≡ record_size = same_len_mid map_place (length unit - map_place) unit map' e ∙ l in
+    length-take-le map_place (with_map unit map') (omega (arith, kept))
+
 module _ (dev : Device) (chain storage store unit answers : List ℕ) where
   abbrev lent : ℕ
   lent = first_of (lent_causes dev chain storage store answers)
@@ -124,6 +129,9 @@ module _ (dev : Device) (chain storage store unit answers : List ℕ) where
 
   pub sized_long : sized_verdict ≡ 0 → length unit ≡ record_size
   sized_long e = (sized e).1
+
+  pub sized_primary : sized_verdict ≡ 0 → dev.alternates < store_blocks dev store
+  sized_primary e = lent_primary dev chain storage store answers (sized e).0
 
   -- a verdict of 1 to 6 is the call's
   sized_given : (cause : ℕ) → cause ≡ sized_verdict → (cause ≡ 0 → ⊥) → first_of (host_causes dev chain storage store unit answers) ≡ cause
@@ -163,9 +171,6 @@ module _ (dev : Device) (chain storage store unit answers : List ℕ) where
     ran_hosted map' l reached m s a packed h b =
         let same-record = ap record_of (front_kept unit whole map') ∙ record_taken unit in
         rw (b, same-record, map_behind unit whole map', host_is_call dev chain storage store unit answers whole, ← (map_lent unit whole)) (ap hosted h)
-
-    pub few_hosted : (c : Called) → first_of (call_causes dev chain storage store map answers) ≡ 0 → c ≡ call_of dev chain storage store (record_of unit) map answers → c.reached ≤ 32
-    few_hosted c e h = rw h (omega (arith, (callable dev chain storage store map answers e).few, (call_reached dev chain storage store (record_of unit) map answers).1))
 
 -- the call's one number determines the cause and the commands reached: what `run_hosted` promises allows one result
 pub reached_unique : (result cause r cause' q : ℕ) → result_of cause r ≡ result → result_of cause' q ≡ result → r ≤ 32 → q ≤ 32 → (cause ≡ cause') × (r ≡ q)

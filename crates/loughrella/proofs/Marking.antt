@@ -1,5 +1,4 @@
 -- One chain of a class is marked, and then another.
---     head_put          a result's first four bytes, one by one
 --     refused_marked, ran_marked
 --                       a chain that one of causes 1 to 6 refuses, and one that none of them does: the head, and the answers behind it
 --     Marking           those ahead, marked behind the results so far, are the whole class marked
@@ -7,19 +6,19 @@
 --                       before the first turn, after one more, and at the end
 --     next_room         what the next turn takes of the results
 -- No contract cites this file.
-use Prim.Native.Nat.{ℕ, ◌+◌, ◌-◌, ◌/◌, ◌%◌, ◌≤◌, ◌<◌}
+use Prim.Native.Nat.{ℕ, ◌+◌, ◌-◌, ◌≤◌, ◌<◌}
 use mathlib.Core.Path.{◌≡◌, refl, sym, ap, ◌∙◌}
 use mathlib.Core.Bool.{false, false≢true}
 use mathlib.Core.Option.{get_or}
 use mathlib.Core.List.{List, [], ◌∷◌, ◌++◌, append_assoc}
-use lib.ListN.{length, take, drop, set, length-drop, take-append-drop}
+use lib.ListN.{length, take, drop, take-append-drop}
 use lib.Seq.{drop-drop}
 use native.Mathlib.Omega.{arith}
 use Rattle.std.specs.Prelude.{Result, Ok, Err, IfOk}
 use borrow.Rule.Slice.PartMut.{mid_of, put_mid}
 use Rattle.numbers.specs.Big.{be2, bytes2}
 use Rattle.slices.specs.Parts.{part, put}
-use Rattle.slices.proofs.Laws.{rest_lent, rest_back, length_put, take_put, drop_put, part_drop, length_part, part_lent, put_lent_whole}
+use Rattle.slices.proofs.Laws.{rest_lent, rest_back, length_put, take_put, drop_put, length_part, part_lent, put_lent_whole}
 use Rattle.model.specs.declared.cause.Cause.{Cause}
 use Rattle.model.specs.declared.device.Device.{Device}
 use Rattle.model.specs.Rules.{first_of}
@@ -31,19 +30,6 @@ use Rattle.model.proofs.Class.{FirstIn, right_first, mark_next, chains_none, wro
 use Rattle.chain.specs.Outcome.{reached_in}
 use Rattle.loughrella.specs.Sized.{sized_causes}
 use Rattle.loughrella.proofs.Hosted.{refused_sized}
-
-pub head_put : (l : List ℕ) (cause reached : ℕ) → head_size ≤ length l → cause < 256 → reached ≤ 32
-    → set (set (set (set l 0 0) 1 cause) 2 0) 3 reached ≡ (bytes2 cause ++ bytes2 reached) ++ drop head_size l
-head_put [] cause reached h c r = absurd (omega arith)
-head_put (a ∷ []) cause reached h c r = absurd (omega arith)
-head_put (a ∷ b ∷ []) cause reached h c r = absurd (omega arith)
-head_put (a ∷ b ∷ d ∷ []) cause reached h c r = absurd (omega arith)
-head_put (a ∷ b ∷ d ∷ e ∷ l) cause reached h c r =
-    let cause-high : cause / 256 % 256 ≡ 0 = omega arith in
-    let cause-low : cause % 256 ≡ cause = omega arith in
-    let high : reached / 256 % 256 ≡ 0 = omega arith in
-    let low : reached % 256 ≡ reached = omega arith in
-    rw (cause-high, cause-low, high, low)
 
 -- a class that is right ends with a chain
 right_none : (bytes : List ℕ) (lent : ℕ) → length bytes < length_size + be2 bytes 0 → bad_class (chains_in bytes) lent ≡ false → length bytes ≡ 0

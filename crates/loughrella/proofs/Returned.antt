@@ -7,13 +7,11 @@
 --     done_return      none does, and the store and the map that were made are those of the definition
 -- No contract cites this file.
 use Prim.Native.Nat.{ℕ, ◌<◌}
-use mathlib.Core.Path.{◌≡◌, refl, sym, ◌∙◌}
+use mathlib.Core.Path.{◌≡◌, refl, sym}
 use mathlib.Core.List.{List}
 use lib.ListN.{length}
 use native.Mathlib.Omega.{arith}
-use borrow.Author.Tests.{eqb-true, eq-eqb, ne_eqb, not-false}
-use Rattle.numbers.specs.Choice.{◌=?◌, pick}
-use Rattle.numbers.proofs.Choice.{pick_true, pick_false}
+use borrow.Author.Tests.{eqb-true, not-false}
 use Rattle.model.specs.declared.cause.Cause.{Cause}
 use Rattle.model.specs.declared.device.Device.{Device}
 use Rattle.model.specs.Rules.{first_of}
@@ -24,7 +22,7 @@ use Rattle.model.specs.Host.{result_of}
 use Rattle.model.specs.GiveBack.{brought_home, give_back_of}
 use Rattle.model.specs.Safe.{Usable, Mounted}
 use Rattle.model.specs.Told.{cause_number}
-use Rattle.model.proofs.Verdicts.{first_append, failed_upto, failed_all, none_given}
+use Rattle.model.proofs.Verdicts.{failed_upto, failed_all, none_given}
 use Rattle.model.proofs.Endings.{right_store}
 use Rattle.model.proofs.GiveBack.{returnable, give_back_refused, give_back_done}
 use Rattle.chain.proofs.Passed.{never_none, refused_first, passed_first}

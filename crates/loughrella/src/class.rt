@@ -52,14 +52,14 @@ pub fn class_wrong(chains: &[u8], lent: usize) -> bool
     let mut ahead = chains;
     let mut left = lent;
     while !ahead.is_empty() {
-        let Some((chain, behind)) = split_chain(ahead) else {
+        let Some((chain, rest)) = split_chain(ahead) else {
             return true;
         };
         let size = result_size(chain.len());
         if left < size {
             return true;
         }
-        ahead = behind;
+        ahead = rest;
         left -= size;
     }
     false

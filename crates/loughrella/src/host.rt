@@ -36,7 +36,7 @@ pub fn host_cause(
 }
 
 // A call that none of causes 1 to 6 refuses: 8, or the commands reached.
-#[tactic(auto, using(crate::proofs::Hosted::sized_long, crate::proofs::Hosted::refused_map))]
+#[tactic(auto, using(crate::proofs::Hosted::sized_long, crate::proofs::Hosted::sized_primary, crate::proofs::Hosted::map_whole, crate::proofs::Hosted::may_run, crate::proofs::Hosted::front_long, crate::proofs::Hosted::refused_map))]
 pub fn run_hosted(
     d: Device,
     chain: &[u8],

@@ -85,10 +85,10 @@ pub fn loughrella_record(unit: &mut [u8], ready: u8, read_only: u8) -> u32
 pub fn loughrella_give_back(store: &mut [u8], alternates: u32, unit: &mut [u8], block: u32) -> u32
     ensures { record { result = result; store = store.new; unit = unit.new } ≡ give_back alternates store.old unit.old block }
 {
-    let d = Device::class_a(alternates);
-    if let Err(cause) = give_back_cause(d, store, unit, block as usize) {
-        return result_of(Err(cause));
+    let device = Device::class_a(alternates);
+    if let Err(refusal) = give_back_cause(device, store, unit, block as usize) {
+        return result_of(Err(refusal));
     }
-    give_back(d, store, &mut unit[sizes::RECORD..], block as usize);
+    give_back(device, store, &mut unit[sizes::RECORD..], block as usize);
     0
 }

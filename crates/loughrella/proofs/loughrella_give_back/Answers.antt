@@ -8,11 +8,11 @@ pub give_back-requires : goal.give_back-requires
 give_back-requires c =
     let none = sym c.in_default.ensures in
     let on = returned_on _ _ _ _ none in
-    (device_mounted _ _ _ (device_passed _ _ _ _ none) (usable _ _ c.class_a-d.ensures), on.0, on.1)
+    (device_mounted _ _ _ (device_passed _ _ _ _ none) (usable _ _ c.class_a-device.ensures), on.0, on.1)
 
 pub returns : goal.returns
 returns c =
     let a = c.args in
-    let d = c.class_a-d in
+    let d = c.class_a-device in
     let done = c.give_back.ensures in
     rw (← d.ensures) (done_return d.result a.store.now a.unit.now a.block (sym c.in_default.ensures) _ _ done.store done.map)
