@@ -112,6 +112,7 @@ pub fn mark_each(
         ≡ mark_each_of d (get_or (chains_in chains.now) []) storage.old store.old unit.old results.old }
 {
     let mut ahead = chains;
+    // an index: of results that are split further each turn (`split_at_mut`) the check does not know what they hold at the end
     let mut used = 0;
     while let Some((chain, behind)) = split_chain(ahead) {
         let end = used + result_size(chain.len());
