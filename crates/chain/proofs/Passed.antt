@@ -1,5 +1,5 @@
 -- Two tables, one after the other, as a `?` goes over them, and the call that such a table refuses.
---     never_none              no cause has the number 0
+--     never_none, cause_same  no cause has the number 0, and no two have the same
 --     refused_first           the first one's error is the verdict of both
 --     passed_first            where the first one gives none, the second one's verdict is
 --     call_first, call_map    so it is of causes 1 to 5, and of 8 behind them
@@ -7,11 +7,12 @@
 --     call_few                a call, refused or not, reaches 32 commands at most
 -- No contract cites this file.
 use Prim.Native.Nat.{ℕ, ◌≤◌}
-use mathlib.Core.Path.{◌≡◌, refl, sym, ◌∙◌}
+use mathlib.Core.Path.{◌≡◌, refl, sym, ap, ◌∙◌}
 use mathlib.Core.Bool.{Bool, true, false}
 use mathlib.Core.List.{List, ◌++◌}
 use native.Mathlib.Omega.{arith}
 use borrow.Author.Tests.{eqb-true, eqb-false}
+use Rattle.std.specs.Prelude.{Result, Ok, Err, ⊤}
 use Rattle.numbers.specs.Choice.{◌=?◌, pick}
 use Rattle.model.specs.declared.cause.Cause.{Cause}
 use Rattle.model.specs.declared.device.Device.{Device}
@@ -20,14 +21,19 @@ use Rattle.model.specs.Causes.{lent_causes, map_causes, call_causes}
 use Rattle.model.specs.Chain.{call_of}
 use Rattle.model.specs.Exactly.{absent}
 use Rattle.model.specs.Rules.{Rule, first_of}
-use Rattle.model.specs.Told.{cause_number}
+use Rattle.model.specs.Told.{cause_number, outcome_of}
 use Rattle.model.proofs.Endings.{callable, call_reached}
 use Rattle.model.proofs.Refusals.{call_refused}
-use Rattle.model.proofs.Told.{refused_told}
+use Rattle.model.proofs.Told.{outcome_told, refused_told}
 use Rattle.model.proofs.Verdicts.{first_append}
 
 pub never_none : (cause : Cause) → cause_number cause ≡ 0 → ⊥
 never_none cause = eqb-false _ _ (refused_told cause)
+
+pub cause_same : (x y : Cause) → cause_number x ≡ cause_number y → x ≡ y
+cause_same x y e =
+    let same : Err x ≡ Err y = sym (outcome_told (Err x)) ∙ ap outcome_of e ∙ outcome_told (Err y) in
+    cc
 
 module _ (front back : List Rule) (a : absent 0 front ≡ true) where
   pub refused_first : (cause : Cause) → cause_number cause ≡ first_of front → first_of (front ++ back) ≡ cause_number cause

@@ -1,12 +1,14 @@
 -- A promise determines its result: two results that it allows are equal. One theorem for each form that a promise takes.
 --     same_by                           a result that is named, `r ≡ f x`: most functions, and the call with every buffer in one record
 --     told_unique                       a test that is true exactly where a fact holds
+--     outcome_unique                    a Result that tells a verdict, `told r ≡ first_of ..`
 --     ends_unique                       a command's ending with the two storages and the map, `Ends (holding u map) c s r main store ..`
 --     next_unique                       what is left of an area behind a piece
 --     decoded_unique                    the command that a CCW begins
 --     status_unique, channel_unique     a status that is known by its byte
 --     log_unique                        a log that is known by its bytes
 --     walks_unique, allowed_unique      the run of a chain, and of one that no cause refuses
+--     call_unique                       the call: its Result, and what was lent
 --     by_value_unique, in_place_unique  the run, by value and in place
 -- docs/PROOFS.md lists which function has which form. Assumes nothing.
 use Prim.Native.Nat.{ℕ, ◌+◌, ◌-◌}
@@ -15,6 +17,8 @@ use mathlib.Core.Bool.{Bool, true, false}
 use mathlib.Core.List.{List, ◌∷◌}
 use lib.ListN.{length, get_or}
 use native.Mathlib.Omega.{arith}
+use Rattle.std.specs.Prelude.{Result, Ok, Err, ⊤}
+use Rattle.model.specs.declared.cause.Cause.{Cause}
 use Rattle.model.specs.declared.ccw.Piece.{Piece}
 use Rattle.model.specs.declared.decoded.Area.{Area}
 use Rattle.model.specs.declared.decoded.Decoded.{Decoded}
@@ -41,7 +45,11 @@ use Rattle.unit_state.specs.Standing.{holding, state_of, state_left}
 use Rattle.endings.specs.declared.Ended.{Ended}
 use Rattle.endings.specs.Ending.{Ends}
 use Rattle.chain.specs.declared.run.Walked.{Walked}
-use Rattle.chain.specs.Walk.{system_left, ccws_of, Walks, Allowed}
+use Rattle.model.specs.Told.{told, outcome_of}
+use Rattle.model.proofs.Told.{outcome_told}
+use Rattle.chain.specs.declared.call.Returned.{Returned}
+use Rattle.chain.specs.Walk.{system_left, ccws_of, Walks, Allowed, called_with}
+use Rattle.chain.proofs.Passed.{never_none, cause_same}
 use Rattle.chain.proofs.Runs.{left_known, length_pieces, command_ccws}
 use Rattle.model.specs.Lent.{new_record}
 use Rattle.in_place.specs.declared.Ran.{Ran}
@@ -55,6 +63,9 @@ told_unique P true true f g = refl
 told_unique P true false f g = sym (g.1 (f.0 refl))
 told_unique P false true f g = f.1 (g.0 refl)
 told_unique P false false f g = refl
+
+pub outcome_unique : (n : ℕ) (r q : Result ⊤ Cause) → told r ≡ n → told q ≡ n → r ≡ q
+outcome_unique n r q e f = sym (outcome_told r) ∙ ap outcome_of (e ∙ sym f) ∙ outcome_told q
 
 -- the map that a `Left` stands for is the one that is lent
 map_left_lem : (u : Record) (map : List ℕ) (l : Left) → (state_left (holding u map) l).map ≡ map
@@ -153,6 +164,38 @@ module _ (u : Record) (v w : Walked) (m₁ s₁ p₁ a₁ m₂ s₂ p₂ a₂ : 
   pub allowed_unique : (dev : Device) (chain main store map answers : List ℕ) → Allowed dev u chain main store map answers v m₁ s₁ p₁ a₁ → Allowed dev u chain main store map answers w m₂ s₂ p₂ a₂
       → SameWalk v w m₁ m₂ s₁ s₂ p₁ p₂ a₁ a₂
   allowed_unique dev chain main store map answers p q = same_walk (p.after ∙ sym q.after) (p.left ∙ sym q.left)
+
+-- the call
+pub record SameCall (r q : Result Returned Cause) (main main' store store' map map' answers answers' : List ℕ) : Type 0 where
+  pub given : r ≡ q
+  pub main_same : main ≡ main'
+  pub store_same : store ≡ store'
+  pub map_same : map ≡ map'
+  pub answers_same : answers ≡ answers'
+
+given_same : (u : Record) (r q : Result Returned Cause) (m₁ s₁ p₁ a₁ m₂ s₂ p₂ a₂ : List ℕ) → called_with u r m₁ s₁ p₁ a₁ ≡ called_with u q m₂ s₂ p₂ a₂ → r ≡ q
+given_same u (Ok x) (Ok y) m₁ s₁ p₁ a₁ m₂ s₂ p₂ a₂ e = λ i. Ok (record { reached = (e i).reached; unit = (e i).unit })
+given_same u (Ok x) (Err b) m₁ s₁ p₁ a₁ m₂ s₂ p₂ a₂ e = absurd (never_none b (sym (ap (λ (c : Called). c.cause) e)))
+given_same u (Err a) (Ok y) m₁ s₁ p₁ a₁ m₂ s₂ p₂ a₂ e = absurd (never_none a (ap (λ (c : Called). c.cause) e))
+given_same u (Err a) (Err b) m₁ s₁ p₁ a₁ m₂ s₂ p₂ a₂ e = ap Err (cause_same a b (ap (λ (c : Called). c.cause) e))
+
+lent_back : (u : Record) (r : Result Returned Cause) (m s p a : List ℕ) → let c = called_with u r m s p a in (c.main ≡ m) × (c.store ≡ s) × (c.map ≡ p) × (c.answers ≡ a)
+lent_back u (Ok x) m s p a = (refl, refl, refl, refl)
+lent_back u (Err b) m s p a = (refl, refl, refl, refl)
+
+pub call_unique : (u : Record) (c : Called) (r q : Result Returned Cause) (m₁ s₁ p₁ a₁ m₂ s₂ p₂ a₂ : List ℕ) → called_with u r m₁ s₁ p₁ a₁ ≡ c → called_with u q m₂ s₂ p₂ a₂ ≡ c
+    → SameCall r q m₁ m₂ s₁ s₂ p₁ p₂ a₁ a₂
+call_unique u c r q m₁ s₁ p₁ a₁ m₂ s₂ p₂ a₂ e f =
+    let same = e ∙ sym f in
+    let k = lent_back u r m₁ s₁ p₁ a₁ in
+    let l = lent_back u q m₂ s₂ p₂ a₂ in
+    record {
+      given = given_same u r q m₁ s₁ p₁ a₁ m₂ s₂ p₂ a₂ same;
+      main_same = sym k.0 ∙ ap (λ (d : Called). d.main) same ∙ l.0;
+      store_same = sym k.1 ∙ ap (λ (d : Called). d.store) same ∙ l.1;
+      map_same = sym k.2 ∙ ap (λ (d : Called). d.map) same ∙ l.2;
+      answers_same = sym k.3 ∙ ap (λ (d : Called). d.answers) same ∙ l.3;
+    }
 
 pub record SameRun (v w : Ran) (storage storage' store store' answers answers' : List ℕ) : Type 0 where
   pub unit_same : v.unit ≡ w.unit

@@ -8,13 +8,15 @@
 --     record_taken     the record stands in the first 34 bytes; new_stored   and one that is set up
 --     sized, sized_long, sized_primary
 --                      none of them holds: none of 1 to 5 does, there are 290 bytes of record, and a primary
---     front_long       a map that comes back leaves the first 34 bytes where they were
+--     front_taken, front_long
+--                      there are 34 bytes before the map, and a map that comes back leaves them there
 --     refused_sized, refused_map
 --                      one of them holds, or 8 does: refused, and nothing changed
 --     may_run          none does, and the call may run
 --     ran_hosted       the run on the record that the bytes hold, and what it left packed again
 --     usable           the device of every call of ours may be used
---     reached_unique   what `run_hosted` promises allows one result
+--     reached_unique, hosted_unique
+--                      what `run_hosted` promises allows one result
 -- No contract cites this file.
 use Prim.Native.Nat.{ℕ, ◌+◌, ◌-◌, ◌≤◌, ◌<◌}
 use mathlib.Core.Path.{◌≡◌, refl, sym, ap, ◌∙◌}
@@ -24,6 +26,7 @@ use lib.Seq.{take-take, take_all, take_at, length-take-le, get_or-take}
 use native.Mathlib.Omega.{arith}
 use borrow.Author.Tests.{eq-eqb, ne_eqb, eqb-true, not-false}
 use borrow.Rule.Slice.PartMut.{mid_of, put_mid, same_len_mid}
+use Rattle.std.specs.Prelude.{Result, Ok, Err, IfOk}
 use Rattle.numbers.specs.Choice.{pick}
 use Rattle.numbers.proofs.Choice.{pick_true, pick_false}
 use Rattle.slices.specs.Parts.{zeros, part, put, pad}
@@ -37,7 +40,7 @@ use Rattle.model.specs.Causes.{lent_causes, record_causes, map_causes, call_caus
 use Rattle.model.specs.Chain.{call_of, class_a}
 use Rattle.model.specs.Host.{result_of, hosted, host_call_of}
 use Rattle.model.specs.Safe.{Usable}
-use Rattle.model.specs.Told.{cause_number}
+use Rattle.model.specs.Told.{cause_number, told}
 use Rattle.model.proofs.Verdicts.{first_append, failed_upto, failed_all, none_given}
 use Rattle.model.proofs.Endings.{lent_primary}
 use Rattle.model.proofs.Refusals.{host_refused}
@@ -46,7 +49,8 @@ use Rattle.model.proofs.Safety.{class_a_usable}
 use Rattle.model.proofs.Hosts.{host_verdict, host_is_call}
 use Rattle.unit_state.specs.declared.Left.{Left}
 use Rattle.unit_state.specs.Standing.{unit_left}
-use Rattle.chain.proofs.Passed.{never_none, refused_first, passed_first}
+use Rattle.chain.specs.Outcome.{reached_in}
+use Rattle.chain.proofs.Passed.{never_none, cause_same, refused_first, passed_first}
 use Rattle.loughrella.specs.Sized.{sized_causes}
 
 -- the record stands in the first 34 bytes
@@ -96,6 +100,9 @@ module _ (unit : List ℕ) (whole : length unit ≡ record_size) where
 
   pub map_stored : (map : List ℕ) → with_map unit map ≡ record_bytes (record_of unit) map
   map_stored map = sym (take-append-drop map_place (with_map unit map)) ∙ rw (front_kept map, map_behind map, record_front unit (omega (arith, whole)))
+
+pub front_taken : (unit : List ℕ) → length unit ≡ record_size → length (take map_place unit) ≡ map_place
+front_taken unit l = length-take-le map_place unit (omega (arith, l))
 
 -- a map of its length put in the place of its own leaves the front its length
 pub front_long : (unit map' : List ℕ) → length unit ≡ record_size → length map' ≡ length (lent_map unit) → length (take map_place (with_map unit map')) ≡ map_place
@@ -176,6 +183,13 @@ module _ (dev : Device) (chain storage store unit answers : List ℕ) where
 pub reached_unique : (result cause r cause' q : ℕ) → result_of cause r ≡ result → result_of cause' q ≡ result → r ≤ 32 → q ≤ 32 → (cause ≡ cause') × (r ≡ q)
 unfolding result_of
 reached_unique result cause r cause' q e f l k = (omega arith, omega arith)
+
+pub hosted_unique : (result : ℕ) (o q : Result ℕ Cause) → result_of (told o) (reached_in o) ≡ result → result_of (told q) (reached_in q) ≡ result
+    → IfOk o (λ reached. reached ≤ 32) → IfOk q (λ reached. reached ≤ 32) → o ≡ q
+hosted_unique result (Ok r) (Ok s) e f l k = ap Ok (reached_unique result 0 r 0 s e f l k).1
+hosted_unique result (Ok r) (Err b) e f l k = absurd (never_none b (sym (reached_unique result 0 r (cause_number b) 0 e f l (omega arith)).0))
+hosted_unique result (Err a) (Ok s) e f l k = absurd (never_none a (reached_unique result (cause_number a) 0 0 s e f (omega arith) k).0)
+hosted_unique result (Err a) (Err b) e f l k = ap Err (cause_same a b (reached_unique result (cause_number a) 0 (cause_number b) 0 e f (omega arith) (omega arith)).0)
 
 -- the device of every call of ours
 pub usable : (d : Device) (n : ℕ) → d ≡ class_a n → Usable d

@@ -72,8 +72,8 @@ module _ (dev : Device) (store unit : List ℕ) where
           let k = returnable dev store unit block passed in
           (k.on, rw (map_lent unit k.long) k.mapped)
 
-      pub done_return : (store' map' : List ℕ) → store' ≡ brought_home dev (lent_map unit) store block → map' ≡ unmapped (lent_map unit) dev.alternates block
-          → record { result = 0; store = store'; unit = with_map unit map' } ≡ give_back_of dev store unit block
-      done_return store' map' s m =
+      pub done_return : give_back_of dev store unit block
+          ≡ record { result = 0; store = brought_home dev (lent_map unit) store block; unit = with_map unit (unmapped (lent_map unit) dev.alternates block) }
+      done_return =
           let whole = device_long device_passed in
-          rw (map_stored unit whole map', s, m, map_lent unit whole) (sym (give_back_done dev store unit block passed))
+          rw (map_stored unit whole, map_lent unit whole) (give_back_done dev store unit block passed)

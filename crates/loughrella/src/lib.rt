@@ -69,6 +69,7 @@ pub fn loughrella_run_class(
 }
 
 // The record of a new unit, ready or not, read-only or not. 0, or 256 times 6.
+#[tactic(auto, using(crate::proofs::Hosted::front_taken, model::proofs::Hosts::set_up_none))]
 pub fn loughrella_record(unit: &mut [u8], ready: u8, read_only: u8) -> u32
     ensures { record { result = result; unit = unit.new } ≡ set_up unit.old ready read_only }
 {
@@ -81,7 +82,7 @@ pub fn loughrella_record(unit: &mut [u8], ready: u8, read_only: u8) -> u32
 }
 
 // The alternate of a block is given back. 0, or 256 times the cause.
-#[tactic(auto, using(crate::proofs::Returned::refused_return, crate::proofs::Returned::device_passed, crate::proofs::Returned::device_long))]
+#[tactic(auto, using(crate::proofs::Returned::refused_return, crate::proofs::Returned::device_passed, crate::proofs::Returned::device_long, crate::proofs::Returned::device_mounted, crate::proofs::Returned::returned_on, crate::proofs::Returned::done_return, crate::proofs::Hosted::usable))]
 pub fn loughrella_give_back(store: &mut [u8], alternates: u32, unit: &mut [u8], block: u32) -> u32
     ensures { record { result = result; store = store.new; unit = unit.new } ≡ give_back alternates store.old unit.old block }
 {
