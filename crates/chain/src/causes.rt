@@ -54,7 +54,7 @@ fn all_chained(chain: &[u8]) -> bool
 }
 
 // The first of causes 1 to 5 that holds of the call.
-#[tactic(auto, unfolding(model::specs::Causes::lent_causes, model::specs::Rules::first_of, numbers::specs::Choice::pick))]
+#[tactic(auto, using(crate::proofs::Passed::table), unfolding(model::specs::Causes::lent_causes))]
 pub fn lent_cause(
     d: Device,
     chain: &[u8],
@@ -84,7 +84,7 @@ pub fn lent_cause(
 }
 
 // 8 where the map is not right for this device.
-#[tactic(auto, unfolding(model::specs::Causes::map_causes, model::specs::Rules::first_of, numbers::specs::Choice::pick))]
+#[tactic(auto, using(crate::proofs::Passed::table), unfolding(model::specs::Causes::map_causes))]
 pub fn map_cause(d: Device, store: &[u8], map: &[u8]) -> Result<(), Cause>
     requires { Usable d × (d.alternates ≤ store_blocks d store.now) × (length map.now ≡ map_size) }
     ensures { told result ≡ first_of (map_causes d store.now map.now) }
@@ -96,7 +96,7 @@ pub fn map_cause(d: Device, store: &[u8], map: &[u8]) -> Result<(), Cause>
 }
 
 // The first of causes 1 to 5 and 8 that holds of the call.
-#[tactic(auto, using(crate::proofs::Passed::call_first, crate::proofs::Passed::call_map, model::proofs::Endings::lent_primary))]
+#[tactic(auto, using(crate::proofs::Passed::call_rules))]
 pub fn call_cause(
     d: Device,
     chain: &[u8],

@@ -17,6 +17,8 @@
 --     usable           the device of every call of ours may be used
 --     reached_unique, hosted_unique
 --                      what `run_hosted` promises allows one result
+--     sized_rules, hosted_rules
+--                      what the check finds `host_cause` and `run_hosted` by
 -- No contract cites this file.
 use Prim.Native.Nat.{ℕ, ◌+◌, ◌-◌, ◌≤◌, ◌<◌}
 use mathlib.Core.Path.{◌≡◌, refl, sym, ap, ◌∙◌}
@@ -50,7 +52,7 @@ use Rattle.model.proofs.Hosts.{host_verdict, host_is_call}
 use Rattle.unit_state.specs.declared.Left.{Left}
 use Rattle.unit_state.specs.Standing.{unit_left}
 use Rattle.chain.specs.Outcome.{reached_in}
-use Rattle.chain.proofs.Passed.{never_none, cause_same, refused_first, passed_first}
+use Rattle.chain.proofs.Passed.{never_none, cause_same, table, refused_first, passed_first}
 use Rattle.loughrella.specs.Sized.{sized_causes}
 
 -- the record stands in the first 34 bytes
@@ -194,3 +196,9 @@ hosted_unique result (Err a) (Err b) e f l k = ap Err (cause_same a b (reached_u
 -- the device of every call of ours
 pub usable : (d : Device) (n : ℕ) → d ≡ class_a n → Usable d
 usable d n e = rw e (class_a_usable n)
+
+-- what `host_cause` and `run_hosted` stand on
+
+pub ruleset sized_rules = (sized_first, sized_record, table)
+
+pub ruleset hosted_rules = (sized_long, sized_primary, map_whole, may_run, front_long, refused_map)

@@ -5,6 +5,7 @@
 --     marking_none, marking_more, marked_all
 --                       before the first turn, after one more, and at the end
 --     next_room         what the next turn takes of the results
+--     class_rules       what the check finds `class_wrong` by: cause 7's rule, of the first chain and those behind it
 -- No contract cites this file.
 use Prim.Native.Nat.{ℕ, ◌+◌, ◌-◌, ◌≤◌, ◌<◌}
 use mathlib.Core.Path.{◌≡◌, refl, sym, ap, ◌∙◌}
@@ -26,7 +27,7 @@ use Rattle.model.specs.Host.{Hosted, result_of, host_call_of}
 use Rattle.model.specs.Class.{head_size, length_size, result_size, result_head, Marked, behind, mark_of, mark_each_of, chains_in, bad_class}
 use Rattle.model.specs.Told.{cause_number, told}
 use Rattle.model.proofs.Hosts.{result_reads}
-use Rattle.model.proofs.Class.{FirstIn, right_first, mark_next, chains_none, wrong_short}
+use Rattle.model.proofs.Class.{FirstIn, right_first, mark_next, chains_none, right_end, wrong_short, wrong_room, wrong_next}
 use Rattle.chain.specs.Outcome.{reached_in}
 use Rattle.loughrella.specs.Sized.{sized_causes}
 use Rattle.loughrella.proofs.Hosted.{refused_sized}
@@ -137,3 +138,6 @@ module _ (dev : Device) (chains main₀ store₀ unit₀ results₀ : List ℕ) 
             let whole = put_lent_whole results back used n long enough in
             let marked_so = rw (part_lent results used n, ln) at e in
             rw (whole, ln) (marked_next m s u back marked_so (long ∙ lent_long ∙ ln))
+
+-- what `class_wrong` stands on
+pub ruleset class_rules = (right_end, wrong_short, wrong_room, wrong_next, length_part)

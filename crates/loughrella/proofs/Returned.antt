@@ -5,6 +5,8 @@
 --     device_passed    none of the five holds: none of 2, 6 and 8 does; returned_on   and the block is the device's, and mapped
 --     refused_return   one of the five holds: refused, and nothing changed
 --     done_return      none does, and the store and the map that were made are those of the definition
+--     device_rules, return_rules, give_back_rules, returned_rules
+--                      what the check finds the four functions by
 -- No contract cites this file.
 use Prim.Native.Nat.{ℕ, ◌<◌}
 use mathlib.Core.Path.{◌≡◌, refl, sym}
@@ -24,9 +26,10 @@ use Rattle.model.specs.Safe.{Usable, Mounted}
 use Rattle.model.specs.Told.{cause_number}
 use Rattle.model.proofs.Verdicts.{failed_upto, failed_all, none_given}
 use Rattle.model.proofs.Endings.{right_store}
+use Rattle.model.proofs.Blocks.{mounted_alternates, mounted_primaries}
 use Rattle.model.proofs.GiveBack.{returnable, give_back_refused, give_back_done}
-use Rattle.chain.proofs.Passed.{never_none, refused_first, passed_first}
-use Rattle.loughrella.proofs.Hosted.{lent_map, with_map, map_lent, map_whole, map_stored}
+use Rattle.chain.proofs.Passed.{never_none, table, refused_first, passed_first}
+use Rattle.loughrella.proofs.Hosted.{usable, lent_map, with_map, map_lent, map_whole, map_stored}
 
 module _ (dev : Device) (store unit : List ℕ) where
   abbrev device_verdict : ℕ
@@ -77,3 +80,13 @@ module _ (dev : Device) (store unit : List ℕ) where
       done_return =
           let whole = device_long device_passed in
           rw (map_stored unit whole, map_lent unit whole) (give_back_done dev store unit block passed)
+
+-- what the functions of give_back.rt and `loughrella_give_back` stand on
+
+pub ruleset device_rules = (map_lent, table)
+
+pub ruleset return_rules = (mounted_alternates, mounted_primaries, table)
+
+pub ruleset give_back_rules = (give_back_first, give_back_then, device_long, device_mounted)
+
+pub ruleset returned_rules = (refused_return, device_passed, device_long, device_mounted, returned_on, done_return, usable)

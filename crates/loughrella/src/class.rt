@@ -45,7 +45,7 @@ fn split_chain(class: &[u8]) -> Option<(&[u8], &[u8])>
 }
 
 // Whether the lengths do not end at the buffer's end, or the results are shorter than all that room.
-#[tactic(auto, using(model::proofs::Class::right_end, model::proofs::Class::wrong_short, model::proofs::Class::wrong_room, model::proofs::Class::wrong_next, slices::proofs::Laws::length_part))]
+#[tactic(auto, using(crate::proofs::Marking::class_rules))]
 pub fn class_wrong(chains: &[u8], lent: usize) -> bool
     ensures { result ≡ bad_class (chains_in chains.now) lent }
 {

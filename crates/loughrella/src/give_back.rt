@@ -17,7 +17,7 @@ use model::device::Device;
 use model::sizes;
 
 // The first of causes 2, 6 and 8 that holds of a device as it is lent.
-#[tactic(auto, using(crate::proofs::Hosted::map_lent), unfolding(model::specs::Causes::device_causes, model::specs::Causes::map_causes, model::specs::Rules::first_of, numbers::specs::Choice::pick))]
+#[tactic(auto, using(crate::proofs::Returned::device_rules), unfolding(model::specs::Causes::device_causes, model::specs::Causes::map_causes))]
 fn device_cause(d: Device, store: &[u8], unit: &[u8]) -> Result<(), Cause>
     requires { Usable d }
     ensures { told result ≡ first_of (device_causes d store.now unit.now) }
@@ -35,7 +35,7 @@ fn device_cause(d: Device, store: &[u8], unit: &[u8]) -> Result<(), Cause>
 }
 
 // The first of causes 50 and 51 that holds of a block.
-#[tactic(auto, using(model::proofs::Blocks::mounted_alternates, model::proofs::Blocks::mounted_primaries), unfolding(model::specs::Rules::first_of, numbers::specs::Choice::pick))]
+#[tactic(auto, using(crate::proofs::Returned::return_rules))]
 fn return_cause(d: Device, store: &[u8], map: &[u8], block: usize) -> Result<(), Cause>
     requires { Mounted d store.now map.now }
     ensures { told result ≡ first_of (return_causes d store.now map.now block) }
@@ -50,7 +50,7 @@ fn return_cause(d: Device, store: &[u8], map: &[u8], block: usize) -> Result<(),
 }
 
 // The first of causes 2, 6, 8, 50 and 51 that holds.
-#[tactic(auto, using(crate::proofs::Returned::give_back_first, crate::proofs::Returned::give_back_then, crate::proofs::Returned::device_long, crate::proofs::Returned::device_mounted))]
+#[tactic(auto, using(crate::proofs::Returned::give_back_rules))]
 pub fn give_back_cause(d: Device, store: &[u8], unit: &[u8], block: usize) -> Result<(), Cause>
     requires { Usable d }
     ensures { told result ≡ first_of (give_back_causes d store.now unit.now block) }

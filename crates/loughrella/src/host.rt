@@ -16,7 +16,7 @@ use model::sizes;
 use record::{pack_left, unpack};
 
 // The first of causes 1 to 6 that holds of the call.
-#[tactic(auto, using(crate::proofs::Hosted::sized_first, crate::proofs::Hosted::sized_record), unfolding(model::specs::Rules::first_of, numbers::specs::Choice::pick))]
+#[tactic(auto, using(crate::proofs::Hosted::sized_rules))]
 pub fn host_cause(
     d: Device,
     chain: &[u8],
@@ -36,7 +36,7 @@ pub fn host_cause(
 }
 
 // A call that none of causes 1 to 6 refuses: 8, or the commands reached.
-#[tactic(auto, using(crate::proofs::Hosted::sized_long, crate::proofs::Hosted::sized_primary, crate::proofs::Hosted::map_whole, crate::proofs::Hosted::may_run, crate::proofs::Hosted::front_long, crate::proofs::Hosted::refused_map))]
+#[tactic(auto, using(crate::proofs::Hosted::hosted_rules))]
 pub fn run_hosted(
     d: Device,
     chain: &[u8],

@@ -82,7 +82,7 @@ pub fn loughrella_record(unit: &mut [u8], ready: u8, read_only: u8) -> u32
 }
 
 // The alternate of a block is given back. 0, or 256 times the cause.
-#[tactic(auto, using(crate::proofs::Returned::refused_return, crate::proofs::Returned::device_passed, crate::proofs::Returned::device_long, crate::proofs::Returned::device_mounted, crate::proofs::Returned::returned_on, crate::proofs::Returned::done_return, crate::proofs::Hosted::usable))]
+#[tactic(auto, using(crate::proofs::Returned::returned_rules))]
 pub fn loughrella_give_back(store: &mut [u8], alternates: u32, unit: &mut [u8], block: u32) -> u32
     ensures { record { result = result; store = store.new; unit = unit.new } ≡ give_back alternates store.old unit.old block }
 {
