@@ -3,7 +3,8 @@ use native.Mathlib.Omega.{arith}
 use mathlib.Core.Path.{sym}
 use borrow.Author.Tests.{lt-ltb, le-ltb, eq-eqb, ne_eqb}
 use lib.Seq.{length-take-le}
-use Rattle.text_digits.proofs.Numbers.{told_same}
+use Rattle.std.proofs.lemmas.Bool.Decides.{same_from_decides}
+use Rattle.text_digits.proofs.Numbers.{same_Decides}
 use Rattle.text_input.specs.Input.{keyed}
 use borrow.Author.Rules.{rules}
 use Rattle.text_input.proofs.keyed.Goals as goal
@@ -34,4 +35,4 @@ same-requires c = search rules
 
 pub returns : goal.returns
 unfolding keyed
-returns c = simp (lt-ltb _ _ c.if-line-key.false, eq-eqb _ _ c.if-line-ne-LINE_FEED.false) (told_same _ _ _ c.same.ensures.0 c.same.ensures.1)
+returns c = simp (lt-ltb _ _ c.if-line-key.false, eq-eqb _ _ c.if-line-ne-LINE_FEED.false) (same_from_decides _ _ (c.same.ensures.0, c.same.ensures.1) (same_Decides _ _))
