@@ -22,6 +22,9 @@ fn value_of(c: u8) -> u8
     if c < b'A' { c % 16 } else { (c % 16 + 9) % 16 }
 }
 
+// The largest number of one digit.
+const ONE_DIGIT: usize = 9;
+
 // Bytes that were lent for text, and the place in them where the next text goes.
 #[derive(Drop)]
 pub struct Output<'a> {
@@ -54,7 +57,7 @@ impl<'a> Output<'a> {
     pub fn decimal(&mut self, n: usize)
         ensures { Wrote self.old (decimal n) self.new }
     {
-        if n > 9 {
+        if n > ONE_DIGIT {
             self.decimal(n / 10);
         }
         self.text(&[digit((n % 10) as u8)]);

@@ -40,7 +40,7 @@ unfolding number_of
 number_line_length f l e m k =
     pick_ind (λ (r : ℕ). r < f.most + 1 → length l ≤ length f.key + 6) (keyed f.key l) (number_in (f.most + 1 - f.least) f.least (value f.key l)) (f.most + 1)
     (λ t h.
-    let long = keyed_long f.key l _ refl t in
+    let long = keyed_long f.key l t in
     let short = number_length (f.most + 1 - f.least) f.least (value f.key l) (omega arith) (omega arith) in
     omega (arith, length_value f.key l long))
     (λ _ h. absurd (omega arith))

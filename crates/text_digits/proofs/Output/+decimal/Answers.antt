@@ -3,12 +3,12 @@ use native.Mathlib.Omega.{arith}
 use Rattle.text_digits.proofs.Numbers.{decimal_one, decimal_more}
 use Rattle.text_digits.proofs.Outputs.{◌then◌}
 use Rattle.text_digits.proofs.Output.+decimal.Goals as goal
-use Rattle.text_digits.proofs.Output.+decimal.Goals.{then-n-gt9, else-n-gt9}
+use Rattle.text_digits.proofs.Output.+decimal.Goals.{then-n-gt-ONE_DIGIT, else-n-gt-ONE_DIGIT}
 
 pub returns : goal.returns
 returns t c =
     let last = rw c.digit.ensures at c.text.ensures in
-    elim c.if-n-gt9.branch [
-      | then-n-gt9 w ↦ rw (decimal_more c.args.n (omega arith)) (rw (← w.self-is) at w.decimal.ensures then last)
-      | else-n-gt9 w ↦ rw (decimal_one c.args.n (omega arith)) (rw w.self-is at last)
+    elim c.if-n-gt-ONE_DIGIT.branch [
+      | then-n-gt-ONE_DIGIT w ↦ rw (decimal_more c.args.n (omega arith)) (rw (← w.self-is) at w.decimal.ensures then last)
+      | else-n-gt-ONE_DIGIT w ↦ rw (decimal_one c.args.n (omega arith)) (rw w.self-is at last)
     ]
