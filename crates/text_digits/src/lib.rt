@@ -107,7 +107,7 @@ pub fn decode(text: &[u8], to: &mut [u8])
     requires { length text.now ≡ length to.old + length to.old }
     ensures { to.new ≡ bytes_in text.now }
 {
-    // Not a zip with `chunks_exact(2)`: of what is lent through a zip a proof knows the length alone.
+    // Not a zip with `chunks_exact(2)`, which was tried: of what a zip lent a proof knows nothing but the length.
     for (i, byte) in to.iter_mut().enumerate() {
         *byte = value_of(text[2 * i]) * 16 + value_of(text[2 * i + 1]);
     }

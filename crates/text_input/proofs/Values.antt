@@ -5,12 +5,13 @@ use mathlib.Core.Path.{◌≡◌, refl, sym, ap, ◌∙◌}
 use mathlib.Core.Logic.{◌≢◌}
 use Rattle.std.proofs.lemmas.Bool.{false_from_ne_true}
 use Rattle.std.proofs.lemmas.List.{append_cancel_right}
-use mathlib.Core.Bool.{Bool, true, false}
+use mathlib.Core.Bool.{Bool, true, false, cond}
 use mathlib.Core.List.{List, [], ◌∷◌, ◌++◌, append_assoc}
 use lib.ListN.{length, get_or, take, drop, take-append-drop, length-append, drop_of_length-le}
 use lib.Seq.{drop-cons, drop-drop, take_at, drop_at, get_or-append-add}
 use borrow.Author.Tests.{lt-ltb, le-ltb, ltb-true, ltb-false, eqb-true, eq-eqb, not-true}
 use Rattle.std.proofs.Common.{Option, Some, None, Bor, MatchOption}
+use Rattle.std.specs.List.{find, range_with_len}
 use Rattle.std.specs.Option.{IsSome, is_some, unwrap_or}
 use lib.Dec.{ltb}
 use Rattle.slices.specs.Parts.{part}
@@ -73,26 +74,19 @@ pub some_value : (P : Bor (List ℕ) → Type 0) (r : Option (Bor (List ℕ))) (
 some_value P None b m h = sym m ∙ h
 some_value P (Some v) b m h = refl
 
--- a number, or the next
+-- the first of the numbers that may be
 
-pub number_found : (text : List ℕ) (n most all : ℕ) → all ≡ number_in (most + 1 - n) n text → n ≤ most → same text (decimal n) ≡ true → n ≡ all
-unfolding number_in pick
-number_found text n most all e h s =
-    let left : most + 1 - n ≡ suc (most - n) = omega arith in
-    sym (e ∙ rw (left, s))
+number_turn : (b : Bool) (low none n : ℕ) (r : Option ℕ) → low < none → Tells none r n → Tells none (cond b (Some low) r) (pick b low n)
+unfolding pick
+number_turn true low none n r h t = (refl, λ e. omega (arith, h, e))
+number_turn false low none n r h t = t
 
-pub number_next : (text : List ℕ) (n most all : ℕ) → all ≡ number_in (most + 1 - n) n text → n ≤ most → same text (decimal n) ≡ false → all ≡ number_in (most + 1 - (n + 1)) (n + 1) text
-unfolding number_in pick
-number_next text n most all e h s =
-    let left : most + 1 - n ≡ suc (most - n) = omega arith in
-    let less : most + 1 - (n + 1) ≡ most - n = omega arith in
-    e ∙ rw (left, less, s)
-
-pub number_none : (text : List ℕ) (n most all : ℕ) → all ≡ number_in (most + 1 - n) n text → most < n → n ≡ all
+pub number_first : (text : List ℕ) (n low : ℕ) → Tells (low + n) (find (λ m. same text (decimal m)) (range_with_len low n)) (number_in n low text)
 unfolding number_in
-number_none text n most all e h =
-    let left : most + 1 - n ≡ 0 = omega arith in
-    sym (e ∙ rw left)
+number_first text zero low = omega arith
+number_first text (suc n) low =
+    let next : low + 1 + n ≡ low + suc n = omega arith in
+    number_turn (same text (decimal low)) low (low + suc n) (number_in n (low + 1) text) (find (λ m. same text (decimal m)) (range_with_len (low + 1) n)) (omega arith) (rw next at (number_first text n (low + 1)))
 
 pub number_unkeyed : (f : Field) (l : List ℕ) → keyed f.key l ≡ false → number_of f l ≡ f.most + 1
 unfolding number_of pick

@@ -84,12 +84,7 @@ impl Field {
         ensures { Tells (self.now.most + 1) result (number_of (format self.now) line.now) }
     {
         let value = self.value(line)?;
-        for n in self.least..self.most + 1 {
-            if is_decimal(value, n) {
-                return Some(n);
-            }
-        }
-        None
+        (self.least..self.most + 1).find(|n| is_decimal(value, *n))
     }
 
     // Whether a line has bytes in hexadecimal, as many as may be.
