@@ -25,7 +25,8 @@ fn value_of(c: u8) -> u8
 // The largest number of one digit.
 const ONE_DIGIT: usize = 9;
 
-// Bytes that were lent for text, and the place in them where the next text goes.
+// Bytes that were lent for text, and the place in them where the next text goes. It is no `fmt::Write`: each line that is written so answers
+// with a `Result`, and here none is ever an error.
 #[derive(Drop)]
 pub struct Output<'a> {
     pub bytes: &'a mut [u8],
@@ -76,7 +77,7 @@ impl<'a> Output<'a> {
 // The most digits of a number that is read.
 const DIGITS: usize = 5;
 
-// Whether a text is a number in decimal, as it would be printed.
+// Whether a text is a number in decimal, as it would be printed. `parse` would take leading zeros and a plus sign too.
 pub fn is_decimal(text: &[u8], n: usize) -> bool
     requires { n < six_digits }
     ensures { result ≡ same text.now (decimal n) }

@@ -12,7 +12,7 @@ use lib.Seq.{drop-cons, drop-drop, take_at, drop_at, get_or-append-add}
 use borrow.Author.Tests.{lt-ltb, le-ltb, ltb-true, ltb-false, eqb-true, eq-eqb, not-true}
 use Rattle.std.proofs.Common.{Option, Some, None, Bor, MatchOption}
 use Rattle.std.specs.List.{find, range_with_len}
-use Rattle.std.specs.Option.{IsSome, is_some, unwrap_or}
+use Rattle.std.specs.Option.{IsSome, is_some}
 use lib.Dec.{ltb}
 use Rattle.slices.specs.Parts.{part}
 use Rattle.slices.proofs.Laws.{length_part}
@@ -151,8 +151,3 @@ told_some none None n t h = sym (le-ltb n none (omega (arith, t)))
 told_some none (Some m) n t h =
     let apart = t.1 in
     sym (lt-ltb n none (omega arith))
-
--- a number, or the one that stands for none
-pub told_or : (none : ℕ) (r : Option ℕ) (n : ℕ) → Tells none r n → unwrap_or r none ≡ n
-told_or none None n t = sym t
-told_or none (Some m) n t = t.0

@@ -4,7 +4,8 @@
 
 ghost use Rattle.std.specs.Prelude.{◌≡◌, [], ◌+◌, ◌≤◌, ◌<◌, length, get_or, Bool, true, false, MatchOption};
 ghost use Rattle.text_digits.specs.Digits.{six_digits};
-ghost use Rattle.text_input.specs.Input.{lines, most_storage, keyed, value, number_of, bytes_of, hex_line, right_line, wrong_line, most_chain, exercise_in};
+ghost use Rattle.text_input.specs.Input.{lines, most_storage, most_chain, exercise_in};
+ghost use Rattle.text_input.specs.Input.{keyed, value, number_of, bytes_of, hex_line, right_line, wrong_line};
 ghost use Rattle.text_input.specs.Reads.{ends_line, format, Tells, ReadTo};
 
 use model::sizes;
@@ -24,7 +25,7 @@ const LAST_CCW: usize = 36;
 
 pub const MOST_CHAIN: usize = (LAST_CCW + 1 - FIRST_CCW) * sizes::CCW;
 
-// What the lines before storage say.
+// What the lines before storage say: ready and readonly are 0 or 1, as a unit's record has them.
 #[derive(Clone, Copy)]
 pub struct Settings {
     pub blocks: usize,
@@ -73,7 +74,8 @@ const CCW: Field = Field {
 impl Field {
     // The value in a line that is the key, a value and a line feed.
     fn value<'a>(&self, line: &'a [u8]) -> Option<&'a [u8]>
-        ensures { MatchOption result (keyed self.now.key.now line.now ≡ false) (λ v. (keyed self.now.key.now line.now ≡ true) × (v.now ≡ value self.now.key.now line.now)) }
+        ensures { MatchOption result (keyed self.now.key.now line.now ≡ false)
+            (λ v. (keyed self.now.key.now line.now ≡ true) × (v.now ≡ value self.now.key.now line.now)) }
     {
         line.strip_suffix(&[LINE_FEED])?.strip_prefix(self.key)
     }
@@ -126,7 +128,7 @@ fn right_line(n: usize, line: &[u8]) -> bool
     }
 }
 
-// A line ends with it.
+// Whether a character ends a line.
 fn is_line_feed(c: &u8) -> bool
     ensures { result ≡ ends_line c.now }
 {
@@ -154,7 +156,7 @@ fn line_at(input: &[u8], n: usize) -> &[u8]
     input.split_inclusive(is_line_feed).nth(n).unwrap_or(&[])
 }
 
-// The number in the line after the first n. Of a line that is wrong it is one past the most: what an input says is defined for each.
+// The number in the line after the first n. A wrong line has one past the most, since `settings_in` says what `exercise_in` does of every input.
 fn number_at(input: &[u8], n: usize, field: Field) -> usize
     requires { (field.least ≤ field.most) × (field.most < six_digits) }
     ensures { result ≡ number_of (format field) (get_or (lines input.now) n []) }

@@ -54,7 +54,7 @@ fn count_lines(out: &mut Output, answers: &[u8], i: usize)
     number_line(out, b"blocks=", numbers::be2(answers, at + answer::BLOCKS));
 }
 
-// The lines of the first n commands.
+// The lines of the first n commands. They are told by number, as the format has them: by `chunks_exact` each line would be defined anew.
 fn command_lines(out: &mut Output, answers: &[u8], n: usize)
     requires { n * answer_size ≤ length answers.now }
     ensures { Wrote out.old (command_lines answers.now n) out.new }
