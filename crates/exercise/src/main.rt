@@ -12,7 +12,8 @@ const INPUT: usize = 4096;
 
 const OUTPUT: usize = 65536;
 
-// Fills the buffer until the input ends; how many bytes that was.
+// Fills the buffer until the input ends; how many bytes that was. Of std's methods `read_exact` refuses an input that ends earlier,
+// and those that read to its end want a heap.
 fn read_full<R: Read>(input: &mut R, to: &mut [u8]) -> io::Result<usize>
     ensures { IfOk result (λ n. n ≤ length to.new) }
 {

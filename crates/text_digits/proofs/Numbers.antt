@@ -4,14 +4,14 @@ use native.Mathlib.Numerals.{add-one}
 use native.Mathlib.Decide.{dec_le}
 use native.Mathlib.Omega.{arith}
 use mathlib.Core.Path.{◌≡◌, refl, sym, ap, ◌∙◌}
-use mathlib.Core.Bool.{Bool, true, false, ◌&&◌, false≢true as ff}
 use mathlib.Core.List.{List, [], ◌∷◌, ◌++◌, append_assoc, append-nil}
 use lib.ListN.{length, get_or, take, drop, length-append, drop_of_length-le, set}
 use lib.Seq.{take-suc, take-suc-set, take_all, drop-cons}
-use borrow.Author.Tests.{lt-ltb, le-ltb, eqb-true, eq-eqb, ne_eqb}
-use Rattle.numbers.proofs.Joined.{both_true}
+use borrow.Author.Tests.{lt-ltb, le-ltb}
+use Rattle.std.proofs.Common.{rules, Decides}
+use Rattle.std.proofs.lemmas.Slice.Eq.{compares_Decides}
 use Rattle.numbers.specs.Choice.{pick}
-use Rattle.text_digits.specs.Digits.{digit, decimal_of, decimal, hex, value_of, is_digit, all_digits, bytes_in, same}
+use Rattle.text_digits.specs.Digits.{digit, decimal_of, decimal, hex, value_of, bytes_in, same}
 
 -- decimal
 
@@ -68,25 +68,6 @@ pub hex_none : (bytes : List ℕ) → hex (take 0 bytes) ≡ []
 unfolding hex
 hex_none bytes = refl
 
-pub digits_none : (text : List ℕ) (i : ℕ) → length text ≤ i → all_digits (drop i text) ≡ true
-unfolding all_digits
-digits_none text i h = rw (drop_of_length-le text h)
-
-pub digits_from : (text : List ℕ) (i : ℕ) → i < length text → all_digits (drop i text) ≡ (is_digit (get_or text i 0) && all_digits (drop (i + 1) text))
-unfolding all_digits
-digits_from text i h = rw (drop-cons text i 0 h, add-one)
-
--- the character at i is no digit
-pub digits_not : (text : List ℕ) (i v d : ℕ) (all : Bool) → all ≡ all_digits (drop i text) → i < length text → v ≡ value_of (get_or text i 0) → d ≡ digit v → (d ≡ get_or text i 0 → ⊥) → false ≡ all
-unfolding is_digit
-digits_not text i v d all e h f g n = sym (e ∙ digits_from text i h ∙ rw (← f, ← g, ne_eqb _ _ n))
-
--- it is one, so it depends on those after it
-pub digits_more : (text : List ℕ) (i v d : ℕ) (all : Bool) → all ≡ all_digits (drop i text) → i < length text → v ≡ value_of (get_or text i 0) → d ≡ digit v → d ≡ get_or text i 0
-    → all ≡ all_digits (drop (i + 1) text)
-unfolding is_digit
-digits_more text i v d all e h f g n = e ∙ digits_from text i h ∙ rw (← f, ← g, eq-eqb _ _ n)
-
 pub bytes_from : (text : List ℕ) (i : ℕ) → i + 1 < length text → bytes_in (drop i text) ≡ (value_of (get_or text i 0) * 16 + value_of (get_or text (i + 1) 0)) ∷ bytes_in (drop (i + 2) text)
 unfolding bytes_in
 bytes_from text i h =
@@ -115,25 +96,6 @@ decoded_all text to i all e h k =
 
 -- equal lists
 
-same_self : (l : List ℕ) → same l l ≡ true
+pub same_Decides : (l m : List ℕ) → Decides (same l m) (l ≡ m)
 unfolding same
-same_self [] = refl
-same_self (a ∷ l) = rw (eq-eqb a a refl) (same_self l)
-
-pub same_true : (l m : List ℕ) → same l m ≡ true → l ≡ m
-unfolding same
-same_true [] [] e = refl
-same_true [] (b ∷ m) e = absurd (ff e)
-same_true (a ∷ l) [] e = absurd (ff e)
-same_true (a ∷ l) (b ∷ m) e =
-    let both = both_true _ _ e in
-    λ i. eqb-true a b both.0 i ∷ same_true l m both.1 i
-
--- a test that is true exactly where two lists are equal is `same`
-pub told_same : (r : Bool) (l m : List ℕ) → (r ≡ true → l ≡ m) → (l ≡ m → r ≡ true) → r ≡ same l m
-told_same true l m f g = sym (rw (← f refl) (same_self l))
-told_same false l m f g = go (same l m) refl
-  where
-    go : (b : Bool) → same l m ≡ b → false ≡ same l m
-    go true e = g (same_true l m e) ∙ sym e
-    go false e = sym e
+same_Decides = compares_Decides same (search rules)

@@ -1,112 +1,106 @@
-// Numbers and bytes as text, added to an output (`add`, `add_decimal`, `add_hex`) and read from an input (`is_decimal`, `is_hex`, `decode`).
+// Numbers and bytes as text, added to an output (`Output`) and read from an input (`is_decimal`, `is_hex`, `decode`).
 // What does not fit an output is left out: nothing is refused, and a caller need not know how long a text is.
 #![tactic(auto)]
 
-ghost use Rattle.std.specs.Prelude.{◌≡◌, ◌+◌, ◌%◌, ◌≤◌, ◌<◌, length, [], ◌∷◌};
-ghost use Rattle.slices.specs.Parts.{most_copied};
+ghost use Rattle.std.specs.Prelude.{◌≡◌, ◌+◌, ◌%◌, ◌<◌, length, [], ◌∷◌};
 ghost use Rattle.text_digits.specs.Digits.{digit, decimal, six_digits, hex, value_of, is_hex, all_digits, bytes_in, same};
-ghost use Rattle.text_digits.specs.Output.{Adds};
+ghost use Rattle.text_digits.specs.Output.{Wrote};
 
 // The character of a digit.
 fn digit(n: u8) -> u8
     requires { n < 16 }
     ensures { result ≡ digit n }
 {
-    if n < 10 { 48 + n } else { 55 + n }
+    if n < 10 { b'0' + n } else { b'A' - 10 + n }
 }
 
 // The digit that a character stands for.
 fn value_of(c: u8) -> u8
-    ensures { (result ≡ value_of c) × (result < 16) }
+    ensures value { result ≡ value_of c }
+    ensures below { result < 16 }
 {
-    if c < 65 { c % 16 } else { (c % 16 + 9) % 16 }
+    if c < b'A' { c % 16 } else { (c % 16 + 9) % 16 }
 }
 
-// Adds a text at a place of the output, as far as it fits, and returns the place after it.
-pub fn add(out: &mut [u8], at: usize, text: &[u8]) -> usize
-    requires { length text.now ≤ most_copied }
-    ensures { Adds out.old at text.now result out.new }
-{
-    if out.len() <= at {
-        return at;
+// The largest number of one digit.
+const ONE_DIGIT: usize = 9;
+
+// Bytes that were lent for text, and the place in them where the next text goes. It is no `fmt::Write`: each line that is written so answers
+// with a `Result`, and here none is ever an error.
+#[derive(Drop)]
+pub struct Output<'a> {
+    pub bytes: &'a mut [u8],
+    pub at: usize,
+}
+
+impl<'a> Output<'a> {
+    // The first text goes to the front.
+    pub fn new(bytes: &'a mut [u8]) -> Output<'a>
+        ensures same_reference { result.bytes.ghost_name ≡ bytes.entry.ghost_name }
+        ensures same_bytes { result.bytes.now ≡ bytes.old }
+        ensures front { result.at ≡ 0 }
+    {
+        Output { bytes, at: 0 }
     }
-    let n = slices::least(out.len() - at, text.len());
-    slices::put_at(out, at, text, n);
-    at + n
-}
 
-// Adds the last digit of a number.
-fn add_last(out: &mut [u8], at: usize, n: usize) -> usize
-    ensures { Adds out.old at (digit (n % 10) ∷ []) result out.new }
-{
-    let last = [digit((n % 10) as u8)];
-    add(out, at, &last)
-}
-
-// Adds a number in decimal: the digits before the last, where there are some, and the last.
-pub fn add_decimal(out: &mut [u8], at: usize, n: usize) -> usize
-    ensures { Adds out.old at (decimal n) result out.new }
-{
-    if n <= 9 {
-        return add_last(out, at, n);
+    // Adds a text, as far as it fits.
+    pub fn text(&mut self, text: &[u8])
+        ensures { Wrote self.old text.now self.new }
+    {
+        if self.at < self.bytes.len() {
+            let n = text.len().min(self.bytes.len() - self.at);
+            self.bytes[self.at..self.at + n].copy_from_slice(&text[..n]);
+            self.at += n;
+        }
     }
-    let next = add_decimal(out, at, n / 10);
-    add_last(out, next, n)
-}
 
-// Adds a byte as two digits.
-fn add_byte(out: &mut [u8], at: usize, b: u8) -> usize
-    ensures { Adds out.old at (hex (b ∷ [])) result out.new }
-{
-    let two = [digit(b / 16), digit(b % 16)];
-    add(out, at, &two)
-}
-
-// Adds bytes in hexadecimal.
-pub fn add_hex(out: &mut [u8], at: usize, bytes: &[u8]) -> usize
-    ensures { Adds out.old at (hex bytes.now) result out.new }
-{
-    let mut next = at;
-    for i in 0..bytes.len() {
-        next = add_byte(out, next, bytes[i]);
+    // Adds a number in decimal: the digits before the last, where there are some, and the last.
+    pub fn decimal(&mut self, n: usize)
+        ensures { Wrote self.old (decimal n) self.new }
+    {
+        if n > ONE_DIGIT {
+            self.decimal(n / 10);
+        }
+        self.text(&[digit((n % 10) as u8)]);
     }
-    next
+
+    // Adds bytes in hexadecimal.
+    pub fn hex(&mut self, bytes: &[u8])
+        ensures { Wrote self.old (hex bytes.now) self.new }
+    {
+        for b in bytes {
+            self.text(&[digit(*b / 16), digit(*b % 16)]);
+        }
+    }
 }
 
 // The most digits of a number that is read.
 const DIGITS: usize = 5;
 
-// Whether a text is a number in decimal, as it would be printed.
+// Whether a text is a number in decimal, as it would be printed. `parse` would take leading zeros and a plus sign too.
 pub fn is_decimal(text: &[u8], n: usize) -> bool
     requires { n < six_digits }
     ensures { result ≡ same text.now (decimal n) }
 {
     let mut digits = [0u8; DIGITS];
-    let end = add_decimal(&mut digits, 0, n);
-    check::same(text, &digits[..end])
+    let mut printed = Output::new(&mut digits);
+    printed.decimal(n);
+    let Output { bytes, at } = printed;
+    text == &bytes[..at]
 }
 
 // Whether every character is a digit.
 fn all_digits(text: &[u8]) -> bool
     ensures { result ≡ all_digits text.now }
 {
-    for i in 0..text.len() {
-        let c = text[i];
-        if digit(value_of(c)) != c {
-            return false;
-        }
-    }
-    true
+    text.iter().all(|c| digit(value_of(*c)) == *c)
 }
 
 // Whether a text is some bytes in hexadecimal.
 pub fn is_hex(text: &[u8]) -> bool
     ensures { result ≡ is_hex text.now }
 {
-    if text.len() % 2 != 0 {
-        return false;
-    }
-    all_digits(text)
+    text.len() % 2 == 0 && all_digits(text)
 }
 
 // The bytes that a text in hexadecimal stands for go to `to`.
@@ -114,7 +108,8 @@ pub fn decode(text: &[u8], to: &mut [u8])
     requires { length text.now ≡ length to.old + length to.old }
     ensures { to.new ≡ bytes_in text.now }
 {
-    for i in 0..to.len() {
-        to[i] = value_of(text[2 * i]) * 16 + value_of(text[2 * i + 1]);
+    // Not a zip with `chunks_exact(2)`, which was tried: of what a zip lent a proof knows nothing but the length.
+    for (i, byte) in to.iter_mut().enumerate() {
+        *byte = value_of(text[2 * i]) * 16 + value_of(text[2 * i + 1]);
     }
 }

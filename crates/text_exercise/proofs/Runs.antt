@@ -4,8 +4,9 @@ use native.Mathlib.Nat.{zero-add}
 use native.Mathlib.Omega.{arith}
 use mathlib.Core.Path.{◌≡◌, refl, sym, ap}
 use mathlib.Core.List.{List}
-use lib.ListN.{length, take}
+use lib.ListN.{length, take, replicate}
 use lib.Seq.{take_at}
+use Rattle.std.proofs.lemmas.List.{take-replicate}
 use Rattle.model.specs.declared.record.UnitRecord.{UnitRecord}
 use Rattle.model.specs.Chain.{Called, call_of}
 use Rattle.model.specs.Answer.{answer_size}
@@ -13,6 +14,7 @@ use Rattle.model.specs.Host.{result_of}
 use Rattle.model.proofs.Endings.{call_reached}
 use Rattle.model.proofs.Hosts.{result_reads}
 use Rattle.slices.specs.Parts.{put, zeros}
+use Rattle.text_input.specs.Input.{most_chain}
 use Rattle.text_input.specs.declared.Settings.{Settings}
 use Rattle.text_input.specs.Reads.{ReadTo}
 use Rattle.text_exercise.specs.Exercise.{device, new_store, new_unit, exercised}
@@ -57,3 +59,8 @@ exercised_is s chain main store u f g = rw (f, g)
 pub front_is : {to bytes back : List ℕ} {n : ℕ} → ReadTo to bytes n back → take n back ≡ bytes
 unfolding put
 front_is {to} {bytes} {back} {n} r = rw (r.front, zero-add) (take_at bytes _ n (sym r.count))
+
+-- answers that were lent of an array of zeros
+pub zeros_lent : (chain : List ℕ) → length chain ≤ most_chain → zeros (length chain) ≡ take (length chain) (replicate most_chain 0)
+unfolding zeros
+zeros_lent chain h = sym (take-replicate (length chain) most_chain 0 h)

@@ -2,12 +2,10 @@
 #![tactic(auto)]
 
 ghost use Rattle.std.specs.Prelude.{◌≡◌, ◌*◌, ◌≤◌, length};
-ghost use Rattle.slices.specs.Parts.{zeros};
-ghost use Rattle.model.specs.Chain.{call_of};
 ghost use Rattle.text_digits.specs.Output.{Adds};
 ghost use Rattle.text_output.specs.Printout.{printout};
-ghost use Rattle.text_input.specs.Input.{most_blocks, most_storage, most_chain, lines, wrong_line, exercise_in};
-ghost use Rattle.text_exercise.specs.Exercise.{device, new_store, most_store, new_unit, exercised, exercise};
+ghost use Rattle.text_input.specs.Input.{most_blocks, most_chain, lines, wrong_line, exercise_in};
+ghost use Rattle.text_exercise.specs.Exercise.{device, new_store, new_unit, exercised, exercise};
 
 use in_place::run_lending;
 use model::record::UnitRecord;
@@ -20,7 +18,7 @@ use text_input::{
 // The bytes of the largest store.
 const MOST_STORE: usize = MOST_BLOCKS * sizes::BLOCK;
 
-// A run's code is this many times the call's cause, plus the commands reached.
+// A run's code is the one number that C is given: this many times the call's cause, plus the commands reached.
 const PER_CAUSE: usize = 256;
 
 // The device's alternates.
@@ -31,36 +29,10 @@ fn number_blocks(store: &mut [u8], blocks: usize)
     requires { (length store.old ≡ blocks * device.block) × (blocks ≤ most_blocks) }
     ensures { store.new ≡ new_store blocks }
 {
-    for i in 0..store.len() {
-        store[i] = (i / sizes::BLOCK) as u8;
+    for i in 0..blocks {
+        let at = i * sizes::BLOCK;
+        store[at..at + sizes::BLOCK].fill(i as u8);
     }
-}
-
-// Runs the chain, and prints what happened.
-fn run(
-    output: &mut [u8],
-    unit: UnitRecord,
-    chain: &[u8],
-    main: &mut [u8],
-    store: &mut [u8],
-    answers: &mut [u8],
-) -> usize
-    requires { length answers.old ≡ length chain.now }
-    ensures { Adds output.old 0 (printout (call_of device chain.now main.old store.old unit.unit unit.map (zeros (length chain.now)))) result output.new }
-{
-    slices::clear(answers);
-    let ran = run_lending(unit, chain, main, store, ALTERNATES, answers);
-    let left = ran.unit.unit;
-    let sense = left.sense;
-    let code = ran.code as usize;
-    text_output::print(
-        output,
-        code / PER_CAUSE,
-        code % PER_CAUSE,
-        answers,
-        main,
-        &sense,
-    )
 }
 
 // A new unit, as the settings have it.
@@ -73,73 +45,47 @@ fn new_unit(s: Settings) -> UnitRecord
     }
 }
 
-// The same on a new device, as the settings have it.
-fn run_on_device(
-    s: Settings,
-    output: &mut [u8],
-    chain: &[u8],
-    main: &mut [u8],
-    store: &mut [u8],
-    answers: &mut [u8],
-) -> usize
-    requires { (s.blocks ≤ most_blocks) × (length store.old ≡ most_store) × (length answers.old ≡ length chain.now) }
+// Runs the chain on a new device, as the settings have it, and prints what happened.
+fn run(s: Settings, output: &mut [u8], chain: &[u8], main: &mut [u8]) -> usize
+    requires { (s.blocks ≤ most_blocks) × (length chain.now ≤ most_chain) }
     ensures { Adds output.old 0 (printout (exercised (record { settings = s; storage = main.old; chain = chain.now }))) result output.new }
 {
-    let size = s.blocks * sizes::BLOCK;
-    number_blocks(&mut store[..size], s.blocks);
-    run(
+    let mut blocks = [0u8; MOST_STORE];
+    let store = &mut blocks[..s.blocks * sizes::BLOCK];
+    number_blocks(store, s.blocks);
+    let mut zeros = [0u8; MOST_CHAIN];
+    let answers = &mut zeros[..chain.len()];
+    let ran = run_lending(new_unit(s), chain, main, store, ALTERNATES, answers);
+    let code = ran.code as usize;
+    let left = ran.unit.unit;
+    text_output::print(
         output,
-        new_unit(s),
-        chain,
-        main,
-        &mut store[..size],
+        code / PER_CAUSE,
+        code % PER_CAUSE,
         answers,
+        main,
+        &left.sense,
     )
 }
 
-// An input with no wrong line, in buffers that hold the most that one can ask for.
-fn run_input(
-    input: &[u8],
-    output: &mut [u8],
-    chain: &mut [u8],
-    main: &mut [u8],
-    store: &mut [u8],
-    answers: &mut [u8],
-) -> usize
-    requires { (wrong_line input.now ≡ 0) × (length chain.old ≡ most_chain) × (length main.old ≡ most_storage) × (length store.old ≡ most_store) × (length answers.old ≡ most_chain) }
+// An input with no wrong line: its chain and its main storage are read and run.
+fn run_input(input: &[u8], output: &mut [u8]) -> usize
+    requires { wrong_line input.now ≡ 0 }
     ensures { Adds output.old 0 (printout (exercised (exercise_in (lines input.now)))) result output.new }
 {
-    let s = settings_in(input);
-    let n = chain_in(input, chain);
-    let m = storage_in(input, main);
-    run_on_device(
-        s,
-        output,
-        &chain[..n],
-        &mut main[..m],
-        store,
-        &mut answers[..n],
-    )
+    let mut chain = [0u8; MOST_CHAIN];
+    let mut main = [0u8; MOST_STORAGE];
+    let n = chain_in(input, &mut chain);
+    let m = storage_in(input, &mut main);
+    run(settings_in(input), output, &chain[..n], &mut main[..m])
 }
 
 // What `exercise` prints for an input goes to the output, as much of it as fits; it returns how many bytes that is.
 pub fn exercise(input: &[u8], output: &mut [u8]) -> usize
     ensures { Adds output.old 0 (exercise input.now) result output.new }
 {
-    let wrong = wrong_line(input);
-    if wrong != 0 {
-        return text_output::print_refused(output, wrong);
+    match wrong_line(input) {
+        Some(n) => text_output::print_refused(output, n),
+        None => run_input(input, output),
     }
-    let mut chain = [0u8; MOST_CHAIN];
-    let mut main = [0u8; MOST_STORAGE];
-    let mut store = [0u8; MOST_STORE];
-    let mut answers = [0u8; MOST_CHAIN];
-    run_input(
-        input,
-        output,
-        &mut chain,
-        &mut main,
-        &mut store,
-        &mut answers,
-    )
 }

@@ -16,7 +16,7 @@ use borrow.Author.Tests.{ltb-true, le-ltb}
 use Rattle.numbers.specs.Choice.{pick}
 use Rattle.numbers.proofs.Choice.{pick_ind, pick_both}
 use Rattle.text_digits.specs.Digits.{decimal, six_digits, same}
-use Rattle.text_digits.proofs.Numbers.{decimal_short, same_true}
+use Rattle.text_digits.proofs.Numbers.{decimal_short, same_Decides}
 use Rattle.text_output.specs.Printout.{line_feed}
 use Rattle.text_input.specs.Input.{Field, lines, blocks, ready, readonly, storage, ccw, keyed, value, number_in, number_of, number_line, right_line, wrong_from, wrong_line}
 use Rattle.text_input.specs.Reads.{line_length}
@@ -31,7 +31,7 @@ unfolding number_in
 number_length zero low text h m = absurd (omega arith)
 number_length (suc n) low text h m =
     pick_ind (λ (r : ℕ). r < low + suc n → length text ≤ 5) (same text (decimal low)) low (number_in n (low + 1) text)
-    (λ e _. rw (same_true text (decimal low) e) (decimal_short low (omega arith)))
+    (λ e _. rw ((same_Decides text (decimal low)).0 e) (decimal_short low (omega arith)))
     (λ _ k. number_length n (low + 1) text (omega arith) (omega arith))
     h
 
@@ -40,7 +40,7 @@ unfolding number_of
 number_line_length f l e m k =
     pick_ind (λ (r : ℕ). r < f.most + 1 → length l ≤ length f.key + 6) (keyed f.key l) (number_in (f.most + 1 - f.least) f.least (value f.key l)) (f.most + 1)
     (λ t h.
-    let long = keyed_long f.key l _ refl t in
+    let long = keyed_long f.key l t in
     let short = number_length (f.most + 1 - f.least) f.least (value f.key l) (omega arith) (omega arith) in
     omega (arith, length_value f.key l long))
     (λ _ h. absurd (omega arith))

@@ -1,19 +1,17 @@
 -- What is read from an input is bytes, and no more than fits. No contract cites this file.
-use Prim.Native.Nat.{ℕ, ◌+◌, ◌-◌, ◌*◌, ◌≤◌, ◌<◌}
-use native.Mathlib.Decide.{dec_le}
+use Prim.Native.Nat.{ℕ, ◌+◌, ◌*◌, ◌≤◌, ◌<◌}
 use native.Mathlib.Omega.{arith}
 use mathlib.Core.Path.{◌≡◌}
-use mathlib.Core.Bool.{true}
 use mathlib.Core.List.{List, [], ◌∷◌}
 use lib.ListN.{length, get_or, drop}
 use Rattle.numbers.specs.Bytes.{AreBytes}
 use Rattle.numbers.proofs.Bytes.{bytes_nil, bytes_cons, bytes_append}
 use Rattle.numbers.proofs.Choice.{pick_ind}
 use Rattle.text_digits.specs.Digits.{value_of, bytes_in}
-use Rattle.text_input.specs.Input.{lines, most_storage, ready, readonly, storage, bytes_of, right_line, wrong_from, wrong_line, chain_in, exercise_in}
+use Rattle.text_input.specs.Input.{lines, most_storage, ready, readonly, storage, bytes_of, wrong_from, wrong_line, chain_in, exercise_in}
 use Rattle.text_input.proofs.Values.{length_value, number_bounded}
 use Rattle.text_input.proofs.Reading.{decoded_length}
-use Rattle.text_input.proofs.Rights.{storage_line, ccw_right, hex_is}
+use Rattle.text_input.proofs.Rights.{storage_line, right_number, hex_is}
 
 value_below : (c : ℕ) → value_of c < 16
 unfolding value_of
@@ -53,15 +51,6 @@ settings_few input =
     (omega (arith, yes-ready), omega (arith, yes-only))
 
 -- the number of a wrong line
-
-right_number : (n : ℕ) (l : List ℕ) → right_line n l ≡ true → n ≤ 36
-right_number n l e = elim (dec_le 5 n) [
-  | yes a ↦
-      let k : ℕ = n - 5 in
-      let nk : n ≡ 5 + k = omega (arith, a) in
-      omega (arith, nk, (ccw_right k l (rw nk at e)).1)
-  | no a ↦ omega (arith, a)
-]
 
 wrong_number : (n : ℕ) (ls : List (List ℕ)) → n ≤ 37 → wrong_from n ls ≤ 37
 unfolding wrong_from

@@ -1,22 +1,20 @@
--- `text_digits::all_digits` meets its contract. The invariant: whether all are digits is whether those from i on are. The measure: those left.
--- Assumes nothing.
-use native.Mathlib.Omega.{arith}
-use mathlib.Core.Path.{◌∙◌, sym}
-use Rattle.text_digits.proofs.Numbers.{digits_none, digits_not, digits_more}
-use borrow.Author.Rules.{rules}
+-- `text_digits::all_digits` meets its contract: `all` asks of each character what the definition asks. Assumes nothing.
+use mathlib.Core.Path.{◌≡◌, ◌∙◌, refl}
+use mathlib.Core.List.{List}
+use Prim.Native.Nat.{ℕ}
+use mathlib.Core.Bool.{◌&&◌}
+use Rattle.std.specs.List.{list_all}
+use Rattle.std.proofs.Common.{rules, tests}
+use Rattle.std.proofs.lemmas.Iterator.{YieldsList-from_slice}
+use Rattle.std.proofs.lemmas.Iterator.Search.{all_from_yields_List}
+use Rattle.std.proofs.lemmas.List.Recursion.{same_from_clauses}
+use Rattle.text_digits.specs.Digits.{is_digit, all_digits}
 use Rattle.text_digits.proofs.all_digits.Goals as goal
 
-pub returns-then-digit-c : goal.returns-then-digit-c
-returns-then-digit-c c =
-    let l = c.loop-i in
-    digits_not c.args.text.now l.i _ _ _ l.invariant.2 (search rules) c.value_of.ensures.0 c.digit.ensures c.if-digit-c.true
-
-pub loop-i-preserved : goal.loop-i-preserved
-loop-i-preserved c =
-    let l = c.loop-i in
-    (search rules, search rules, digits_more c.args.text.now l.i _ _ _ l.invariant.2 (search rules) c.value_of.ensures.0 c.digit.ensures c.if-digit-c.false)
+all_is : (text : List ℕ) → list_all is_digit text ≡ all_digits text
+unfolding all_digits
+all_is text = same_from_clauses (list_all is_digit) all_digits (λ d all. is_digit d && all) refl (λ _ _. refl) (λ _ _. refl) text
 
 pub returns : goal.returns
-returns c =
-    let l = c.loop-i in
-    sym (l.invariant.2 ∙ digits_none c.args.text.now l.i (omega arith))
+unfolding is_digit
+returns c = all_from_yields_List is_digit _ _ _ c.all.ensures.ran (YieldsList-from_slice c.args.text.now cc) (λ x b q k. search (rules, tests)) ∙ all_is c.args.text.now

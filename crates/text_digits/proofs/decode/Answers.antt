@@ -1,5 +1,4 @@
--- `text_digits::decode` meets its contract. The invariant: the bytes of the text are those written, and those of what is left of it. The measure: the bytes left.
--- Assumes nothing.
+-- `text_digits::decode` meets its contract: one byte more of the text is written, and at the end none is left. Assumes nothing.
 use Prim.Native.Nat.{ℕ, ◌+◌, ◌*◌}
 use native.Mathlib.Omega.{arith}
 use mathlib.Core.Path.{◌≡◌}
@@ -13,10 +12,9 @@ ap2 e f = rw (e, f)
 pub loop-i-preserved : goal.loop-i-preserved
 loop-i-preserved c =
     let l = c.loop-i in
-    let a = c.args in
-    (search rules, search rules, search rules, search rules, decoded a.text.now l.to l.i _ _ l.invariant.4 (search rules) (omega arith) (ap2 c.value_of.ensures.0 c.value_of-in-loop-i.ensures.0))
+    (search rules, decoded c.args.text.now l.to l.i _ _ l.invariant.1 (search rules) (omega arith) (ap2 c.value_of.ensures.value c.value_of-in-loop-i.ensures.value))
 
 pub returns : goal.returns
 returns c =
     let l = c.loop-i in
-    decoded_all c.args.text.now l.to l.i _ l.invariant.4 (omega arith) (omega arith)
+    decoded_all c.args.text.now l.to l.i _ l.invariant.1 (omega arith) (omega arith)

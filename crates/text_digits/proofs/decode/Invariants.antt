@@ -1,5 +1,5 @@
--- `text_digits::decode` meets its contract. The invariant: the bytes of the text are those written, and those of what is left of it. The measure: the bytes left.
-use Prim.Native.Nat.{◌≤◌, ◌+◌, ◌-◌, ◌*◌}
+-- `text_digits::decode` meets its contract. The invariant: the bytes of the text are those written, and those of what is left of it.
+use Prim.Native.Nat.{◌+◌, ◌*◌}
 use mathlib.Core.Path.{◌≡◌}
 use mathlib.Core.List.{◌++◌}
 use lib.ListN.{length, take, drop}
@@ -7,7 +7,4 @@ use Rattle.text_digits.specs.Digits.{bytes_in}
 use Rattle.text_digits.proofs.decode.Given as goal
 
 abbrev pub invariant-loop-i : goal.invariant-loop-i
-invariant-loop-i l = (l.i ≤ l.i-end) × (l.i-end ≡ length l.initial.to) × (length l.to ≡ length l.initial.to) × (length l.text ≡ length l.initial.to + length l.initial.to) × (bytes_in l.text ≡ take l.i l.to ++ bytes_in (drop (2 * l.i) l.text))
-
-abbrev pub decreases-loop-i : goal.decreases-loop-i
-decreases-loop-i l = l.i-end - l.i
+invariant-loop-i l = (length l.text ≡ length l.initial.to + length l.initial.to) × (bytes_in l.text ≡ take l.i l.to ++ bytes_in (drop (2 * l.i) l.text))

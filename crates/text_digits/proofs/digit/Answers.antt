@@ -2,16 +2,7 @@
 use borrow.Author.Tests.{lt-ltb, le-ltb}
 use Rattle.numbers.specs.Choice.{pick}
 use Rattle.text_digits.specs.Digits.{digit}
-use borrow.Author.Rules.{rules}
 use Rattle.text_digits.proofs.digit.Goals as goal
-
-pub overflow_add-result : goal.overflow_add-result
-unfolding digit pick
-overflow_add-result c = search rules
-
-pub overflow_add-result-else-n-lt10 : goal.overflow_add-result-else-n-lt10
-unfolding digit pick
-overflow_add-result-else-n-lt10 c = search rules
 
 pub returns-then-n-lt10 : goal.returns-then-n-lt10
 unfolding digit pick

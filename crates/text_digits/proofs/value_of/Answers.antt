@@ -1,19 +1,13 @@
 -- `text_digits::value_of` meets its contract: the two tests are one. Assumes nothing.
 use borrow.Author.Tests.{lt-ltb, le-ltb}
-use native.Mathlib.Omega.{arith}
 use Rattle.numbers.specs.Choice.{pick}
 use Rattle.text_digits.specs.Digits.{value_of}
-use borrow.Author.Rules.{rules}
 use Rattle.text_digits.proofs.value_of.Goals as goal
 
-pub overflow_add-result : goal.overflow_add-result
+pub returns-then-c-lt65-clause-value : goal.returns-then-c-lt65-clause-value
 unfolding value_of pick
-overflow_add-result c = search rules
+returns-then-c-lt65-clause-value c = simp (lt-ltb _ _ c.if-c-lt65.true)
 
-pub returns-then-c-lt65 : goal.returns-then-c-lt65
+pub returns-else-c-lt65-clause-value : goal.returns-else-c-lt65-clause-value
 unfolding value_of pick
-returns-then-c-lt65 c = (simp (lt-ltb _ _ c.if-c-lt65.true), omega arith)
-
-pub returns-else-c-lt65 : goal.returns-else-c-lt65
-unfolding value_of pick
-returns-else-c-lt65 c = (simp (le-ltb _ _ c.if-c-lt65.false), omega arith)
+returns-else-c-lt65-clause-value c = simp (le-ltb _ _ c.if-c-lt65.false)

@@ -4,10 +4,10 @@ use Rattle.numbers.specs.Choice.{pick}
 use Rattle.text_exercise.specs.Exercise.{exercise}
 use Rattle.text_exercise.proofs.exercise.Goals as goal
 
-pub returns-then-wrong-ne0 : goal.returns-then-wrong-ne0
+pub returns-in-Some : goal.returns-in-Some
 unfolding exercise pick
-returns-then-wrong-ne0 c = rw (← c.wrong_line-wrong.ensures, ne_eqb _ _ c.if-wrong-ne0.true) c.print_refused.ensures
+returns-in-Some c = rw (ne_eqb _ _ c.in-Some.ensures.1) (rw c.in-Some.ensures.0 at c.print_refused.ensures)
 
-pub returns : goal.returns
+pub returns-in-None : goal.returns-in-None
 unfolding exercise pick
-returns c = rw (← c.wrong_line-wrong.ensures, eq-eqb _ _ c.if-wrong-ne0.false) c.run_input.ensures
+returns-in-None c = rw (eq-eqb _ _ c.in-None.ensures) c.run_input.ensures

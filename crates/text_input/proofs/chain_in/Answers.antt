@@ -1,40 +1,47 @@
--- `text_input::chain_in` meets its contract. The invariant: the lines from `at` on are right, and what they say goes after what stands in `to`. The measure: the bytes left.
--- Assumes nothing.
-use Prim.Native.Nat.{◌+◌, ◌*◌}
+-- `text_input::chain_in` meets its contract: each line that is given is the first of those that were left, and is right. Assumes nothing.
+use Prim.Native.Nat.{◌+◌}
 use native.Mathlib.Omega.{arith}
-use mathlib.Core.Path.{◌≡◌, refl}
-use lib.ListN.{length}
-use borrow.Rule.Slice.PartMut.{mid_len}
-use Rattle.slices.specs.Parts.{part}
-use Rattle.model.specs.Lent.{ccw_size}
-use Rattle.text_input.specs.Input.{exercise_in}
-use Rattle.text_input.proofs.Lines.{line_ends_after}
-use Rattle.text_input.proofs.Reading.{goes_start, goes_done}
-use Rattle.text_input.proofs.Rights.{right_from, ccw_is, chain_more, chain_done}
+use mathlib.Core.Path.{◌≡◌, ◌∙◌, refl}
+use mathlib.Core.List.{[], ◌∷◌, ◌++◌}
+use lib.ListN.{length, drop}
 use borrow.Author.Rules.{rules}
+use borrow.Rule.Slice.PartMut.{mid_len}
+use Rattle.std.proofs.lemmas.List.{length_push}
+use Rattle.text_input.specs.Input.{lines, exercise_in}
+use Rattle.text_input.proofs.Lines.{given_later, given_rest}
+use Rattle.text_input.proofs.Reading.{goes_start, goes_done}
+use Rattle.text_input.proofs.Rights.{chain_from, ccw_is, chain_more, chain_done}
 use Rattle.text_input.proofs.chain_in.Goals as goal
 
-pub loop-at-init : goal.loop-at-init
+pub loop-line-init : goal.loop-line-init
 unfolding exercise_in
-loop-at-init c = (c.line_start-at.ensures.1, right_from c.args.input.now 4 c.line_start-at.result (omega arith) c.requires.0 c.line_start-at.ensures.0, search rules, c.requires.1, omega arith, rw c.line_start-at.ensures.0 goes_start)
+loop-line-init c = (refl, omega arith, c.requires.1, c.requires.1, chain_from c.args.input.now c.requires.0, goes_start)
 
-pub bytes_of-requires : goal.bytes_of-requires
-unfolding part
-bytes_of-requires c =
-    let l = c.loop-at in
-    let s = ccw_is c.args.input.now l.at l.n _ l.invariant.1 (search rules) c.line_end-end.ensures.0 in
-    rw (s.0, mid_len (l.n * ccw_size) (length l.to) l.to (omega arith)) (refl, omega (arith, s.1, l.invariant))
+pub read-end-requires-clause-right : goal.read-end-requires-clause-right
+read-end-requires-clause-right c =
+    let l = c.loop-line in
+    let next = given_later c.args.input.now 4 l.yielded _ _ l.yielded_by c.in-Some.is c.next.ensures.steps c.into_iter-line-iterator.ensures.into_iter_gives c.skip-line-items.ensures.source c.skip-line-items.ensures.count c.split_inclusive.ensures.rest (λ f a b h k. search rules) in
+    let is = ccw_is _ _ c.in-Some.line.now (length l.yielded) next l.invariant.4 in
+    is.0
 
-pub loop-at-smaller : goal.loop-at-smaller
-loop-at-smaller c = omega (arith, line_ends_after c.args.input.now c.loop-at.at _ c.line_end-end.ensures.0 (search rules))
+pub read-end-requires-clause-room : goal.read-end-requires-clause-room
+read-end-requires-clause-room c =
+    let l = c.loop-line in
+    let next = given_later c.args.input.now 4 l.yielded _ _ l.yielded_by c.in-Some.is c.next.ensures.steps c.into_iter-line-iterator.ensures.into_iter_gives c.skip-line-items.ensures.source c.skip-line-items.ensures.count c.split_inclusive.ensures.rest (λ f a b h k. search rules) in
+    let is = ccw_is _ _ c.in-Some.line.now (length l.yielded) next l.invariant.4 in
+    rw (mid_len l.end (length l.to) l.to (omega arith)) (omega (arith, is.2, l.invariant))
 
-pub loop-at-preserved : goal.loop-at-preserved
-unfolding part
-loop-at-preserved c =
-    let l = c.loop-at in
-    let s = ccw_is c.args.input.now l.at l.n _ l.invariant.1 (search rules) c.line_end-end.ensures.0 in
-    let next : (l.n + 1) * ccw_size ≡ l.n * ccw_size + ccw_size = omega arith in
-    (search rules, s.2, search rules, search rules, omega (arith, s.1), rw next (chain_more c.args.input.now l.to l.at (l.n * ccw_size) _ c.line_end-end.ensures.0 (search rules) s.0 (omega (arith, s.1, l.invariant)) c.bytes_of.ensures l.invariant.5))
+pub loop-line-preserved : goal.loop-line-preserved
+loop-line-preserved c =
+    let l = c.loop-line in
+    let next = given_later c.args.input.now 4 l.yielded _ _ l.yielded_by c.in-Some.is c.next.ensures.steps c.into_iter-line-iterator.ensures.into_iter_gives c.skip-line-items.ensures.source c.skip-line-items.ensures.count c.split_inclusive.ensures.rest (λ f a b h k. search rules) in
+    let is = ccw_is _ _ c.in-Some.line.now (length l.yielded) next l.invariant.4 in
+    let more : length (l.yielded ++ (c.in-Some.line ∷ [])) ≡ length l.yielded + 1 = length_push l.yielded c.in-Some.line in
+    let eight : c.read-end.result ≡ 8 = c.read-end.ensures.count ∙ is.1 in
+    rw more (omega arith, omega (arith, is.2), search rules, c.requires.1, is.3, chain_more _ _ c.in-Some.line.now l.to l.end next (omega (arith, l.invariant)) c.read-end.ensures l.invariant.5)
 
 pub returns : goal.returns
-returns c = goes_done (rw (chain_done c.args.input.now c.loop-at.at (search rules)) at c.loop-at.invariant.5) (omega (arith, c.loop-at.invariant))
+returns c =
+    let l = c.loop-line in
+    let long = given_rest c.args.input.now 4 l.yielded _ _ l.yielded_by c.in-None.is c.next.ensures.steps c.into_iter-line-iterator.ensures.into_iter_gives c.skip-line-items.ensures.source c.skip-line-items.ensures.count c.split_inclusive.ensures.rest (λ f a b h k. search rules) in
+    goes_done (rw (chain_done (drop 4 (lines c.args.input.now)) (length l.yielded) (omega arith)) at l.invariant.5) (omega (arith, l.invariant))

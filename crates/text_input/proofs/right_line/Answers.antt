@@ -1,51 +1,36 @@
 -- `text_input::right_line` meets its contract: the line's number picks its rule. Assumes nothing.
-use Rattle.text_input.proofs.Values.{at_most}
-use borrow.Author.Tests.{eq-eqb, ne_eqb, lt-ltb, le-ltb}
+use native.Mathlib.Omega.{arith}
+use mathlib.Core.Path.{◌≡◌, ◌∙◌}
+use borrow.Author.Tests.{ne_eqb, lt-ltb, le-ltb, lt-leb}
 use Rattle.numbers.specs.Choice.{pick}
-use Rattle.text_input.specs.Input.{right_line}
-use borrow.Author.Rules.{rules}
+use Rattle.text_input.specs.Input.{blocks, ready, readonly, right_line}
+use Rattle.text_input.proofs.Values.{number_bounded, told_some}
 use Rattle.text_input.proofs.right_line.Goals as goal
 
-pub number_of-requires : goal.number_of-requires
+pub returns-in-1 : goal.returns-in-1
 unfolding right_line pick
-number_of-requires c = search rules
+returns-in-1 c = rw c.in-1.is (c.is_some.ensures ∙ told_some 65 c.number.result _ c.number.ensures (number_bounded blocks.key c.args.line.now 1 64 (omega arith)))
 
-pub returns-then-n-eq1 : goal.returns-then-n-eq1
+pub returns-in-2 : goal.returns-in-2
 unfolding right_line pick
-returns-then-n-eq1 c = simp (eq-eqb _ _ c.if-n-eq1.true) (at_most _ _ 64 c.number_of.ensures)
+returns-in-2 c = rw c.in-2.is (c.is_some-in-2.ensures ∙ told_some 2 c.number-in-2.result _ c.number-in-2.ensures (number_bounded ready.key c.args.line.now 0 1 (omega arith)))
 
-pub number_of-requires-then-n-eq2 : goal.number_of-requires-then-n-eq2
+pub returns-in-3 : goal.returns-in-3
 unfolding right_line pick
-number_of-requires-then-n-eq2 c = search rules
+returns-in-3 c = rw c.in-3.is (c.is_some-in-3.ensures ∙ told_some 2 c.number-in-3.result _ c.number-in-3.ensures (number_bounded readonly.key c.args.line.now 0 1 (omega arith)))
 
-pub returns-then-n-eq2 : goal.returns-then-n-eq2
+pub returns-in-4 : goal.returns-in-4
 unfolding right_line pick
-returns-then-n-eq2 c = simp (ne_eqb _ _ c.if-n-eq1.false, eq-eqb _ _ c.if-n-eq2.true) (at_most _ _ 1 c.number_of-then-n-eq2.ensures)
+returns-in-4 c = rw c.in-4.is c.has_bytes.ensures
 
-pub number_of-requires-then-n-eq3 : goal.number_of-requires-then-n-eq3
+pub returns-then-n-le-LAST_CCW : goal.returns-then-n-le-LAST_CCW
 unfolding right_line pick
-number_of-requires-then-n-eq3 c = search rules
+returns-then-n-le-LAST_CCW c =
+    let n = c.args.n in
+    simp (ne_eqb n 1 (λ (e : n ≡ 1). omega arith), ne_eqb n 2 (λ (e : n ≡ 2). omega arith), ne_eqb n 3 (λ (e : n ≡ 3). omega arith), ne_eqb n 4 (λ (e : n ≡ 4). omega arith), le-ltb _ _ c.if-n-le-LAST_CCW.true) c.has_bytes-then-n-le-LAST_CCW.ensures
 
-pub returns-then-n-eq3 : goal.returns-then-n-eq3
+pub returns-else-n-le-LAST_CCW : goal.returns-else-n-le-LAST_CCW
 unfolding right_line pick
-returns-then-n-eq3 c = simp (ne_eqb _ _ c.if-n-eq1.false, ne_eqb _ _ c.if-n-eq2.false, eq-eqb _ _ c.if-n-eq3.true) (at_most _ _ 1 c.number_of-then-n-eq3.ensures)
-
-pub hex_line-requires : goal.hex_line-requires
-unfolding right_line pick
-hex_line-requires c = search rules
-
-pub returns-then-n-eq4 : goal.returns-then-n-eq4
-unfolding right_line pick
-returns-then-n-eq4 c = simp (ne_eqb _ _ c.if-n-eq1.false, ne_eqb _ _ c.if-n-eq2.false, ne_eqb _ _ c.if-n-eq3.false, eq-eqb _ _ c.if-n-eq4.true) c.hex_line.ensures
-
-pub returns-then-n-gt-LAST_CCW : goal.returns-then-n-gt-LAST_CCW
-unfolding right_line pick
-returns-then-n-gt-LAST_CCW c = simp (ne_eqb _ _ c.if-n-eq1.false, ne_eqb _ _ c.if-n-eq2.false, ne_eqb _ _ c.if-n-eq3.false, ne_eqb _ _ c.if-n-eq4.false, lt-ltb _ _ c.if-n-gt-LAST_CCW.true)
-
-pub hex_line-requires-2 : goal.hex_line-requires-2
-unfolding right_line pick
-hex_line-requires-2 c = search rules
-
-pub returns : goal.returns
-unfolding right_line pick
-returns c = simp (ne_eqb _ _ c.if-n-eq1.false, ne_eqb _ _ c.if-n-eq2.false, ne_eqb _ _ c.if-n-eq3.false, ne_eqb _ _ c.if-n-eq4.false, le-ltb _ _ c.if-n-gt-LAST_CCW.false) c.hex_line-2.ensures
+returns-else-n-le-LAST_CCW c =
+    let n = c.args.n in
+    simp (ne_eqb n 1 (λ (e : n ≡ 1). omega arith), ne_eqb n 2 (λ (e : n ≡ 2). omega arith), ne_eqb n 3 (λ (e : n ≡ 3). omega arith), ne_eqb n 4 (λ (e : n ≡ 4). omega arith), lt-ltb _ _ c.if-n-le-LAST_CCW.false, lt-leb c.args.n 36 c.if-n-le-LAST_CCW.false)

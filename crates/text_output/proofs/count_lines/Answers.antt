@@ -5,4 +5,4 @@ use Rattle.text_output.proofs.count_lines.Goals as goal
 
 pub returns : goal.returns
 unfolding count_lines
-returns c = rw (← c.be2-residual.ensures.0, ← c.wide-cause.ensures.0, ← c.be2-blocks.ensures.0) (c.number_line-left.ensures then c.number_line-why.ensures then c.number_line.ensures)
+returns c = rw (← c.be2.ensures.0, ← c.be2-2.ensures.0) (c.number_line.ensures then rw c.from.ensures at c.number_line-2.ensures then c.number_line-3.ensures)

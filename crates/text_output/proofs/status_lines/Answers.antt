@@ -5,4 +5,4 @@ use Rattle.text_output.proofs.status_lines.Goals as goal
 
 pub returns : goal.returns
 unfolding status_lines
-returns c = c.number_line-numbered.ensures then c.bytes_line-shown.ensures then c.bytes_line.ensures
+returns c = c.number_line.ensures then c.bytes_line.ensures then c.bytes_line-2.ensures
