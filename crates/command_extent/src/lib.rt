@@ -159,6 +159,6 @@ pub fn define_extent(
         return refuse(c, s, 21);
     }
     let mut p = [0u8; sizes::EXTENT];
-    fetch(chain, c.area, main, &mut p, sizes::EXTENT);
+    fetch(chain, c.area, main, &mut p);
     define_by(d, block_count(d, store), c, s, &p)
 }

@@ -39,7 +39,7 @@ fn return_cause(d: Device, store: &[u8], map: &[u8], block: usize) -> u8
     if block_count(d, store) <= block {
         return 50;
     }
-    if d.alternates <= alternate_of(d.alternates, map, block) {
+    if alternate_of(d.alternates, map, block).is_none() {
         return 51;
     }
     0

@@ -7,6 +7,7 @@ use borrow.Author.Tests.{lt-ltb, le-ltb}
 use Rattle.model.specs.Lent.{block_count}
 use Rattle.model.proofs.Blocks.{mounted_alternates, mounted_primaries}
 use Rattle.model.proofs.Verdicts.{first_here, first_later, first_none}
+use Rattle.alternates.proofs.Found.{none_found}
 use Rattle.loughrella.proofs.give_back.return_cause.Goals as goal
 
 pub block_count-requires : goal.block_count-requires
@@ -21,14 +22,14 @@ alternate_of-requires c =
     let mounted = c.requires in
     (mounted.whole_map, mounted.few_alternates, omega (arith, on, mounted_primaries _ _ _ mounted))
 
-pub returns-then-d-alternate_of : goal.returns-then-d-alternate_of
-returns-then-d-alternate_of c =
+pub returns-then-is_none : goal.returns-then-is_none
+returns-then-is_none c =
     let on : c.args.block < block_count c.args.d c.args.store.now = omega (arith, c.if-block_count-block.false, c.block_count.ensures) in
-    let own = rw c.alternate_of.ensures at c.if-d-alternate_of.true in
-    sym (first_later _ _ (ap not (lt-ltb _ _ on)) ∙ first_here _ _ (ap not (le-ltb _ _ own)))
+    let own = sym (none_found _ _ _ _ c.alternate_of.ensures c.is_none.ensures) ∙ c.if-is_none.true in
+    sym (first_later _ _ (ap not (lt-ltb _ _ on)) ∙ first_here _ _ own)
 
 pub returns : goal.returns
 returns c =
     let on : c.args.block < block_count c.args.d c.args.store.now = omega (arith, c.if-block_count-block.false, c.block_count.ensures) in
-    let mapped = rw c.alternate_of.ensures at c.if-d-alternate_of.false in
-    sym (first_later _ _ (ap not (lt-ltb _ _ on)) ∙ first_later _ _ (ap not (lt-ltb _ _ mapped)) ∙ first_none)
+    let mapped = sym (none_found _ _ _ _ c.alternate_of.ensures c.is_none.ensures) ∙ c.if-is_none.false in
+    sym (first_later _ _ (ap not (lt-ltb _ _ on)) ∙ first_later _ _ mapped ∙ first_none)
