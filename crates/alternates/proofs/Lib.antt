@@ -1,3 +1,4 @@
 pub mod NoneUsed
 pub mod Wrong
 pub mod Placing
+pub mod Found

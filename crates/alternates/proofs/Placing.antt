@@ -3,9 +3,11 @@
 --     lies_from                    where a block lies by the entries from i on: by none of them (`from_alternates`), by one more (`from_turn`), by
 --                                  all (`from_first`)
 --     own_more                     one place more is the block's own
---     put_low, put_here, put_high  the block that an entry names is before those of the row, is one of them, is behind them
+--     put_here, put_none           the block that an entry names is one of the row, is none of it
+--     says_name                    an entry that is a block's name says which
 use Prim.Native.Nat.{ℕ, zero, suc, ◌+◌, ◌-◌, ◌≤◌, ◌<◌}
 use mathlib.Core.Path.{◌≡◌, refl, sym, ap, ◌∙◌}
+use mathlib.Core.Logic.{◌≢◌}
 use mathlib.Core.Bool.{Bool, true, false}
 use mathlib.Core.List.{List}
 use native.Mathlib.Omega.{arith}
@@ -17,7 +19,11 @@ use Rattle.numbers.specs.Choice.{◌<?◌, ◌=?◌, pick}
 use Rattle.numbers.specs.Lowest.{lowest_from, lowest}
 use Rattle.numbers.proofs.Choice.{pick_ind, pick_true, pick_false}
 use Rattle.numbers.proofs.Lowest.{from_none, from_here, from_next}
+use Rattle.model.specs.Names.{DEFECTIVE}
 use Rattle.model.specs.Alternates.{entry_at, name_of, lies}
+use Rattle.alternates.specs.declared.Entry.{Entry}
+use Rattle.alternates.specs.declared.Entry.TheVariants.{Unused, Defective, Block}
+use Rattle.alternates.specs.Entries.{Says}
 use Rattle.alternates.specs.Placed.{places_from}
 
 module _ (map : List ℕ) (alternates primaries : ℕ) where
@@ -87,14 +93,17 @@ module _ (to : List ℕ) (block e place : ℕ) where
   abbrev pub Put : List ℕ → Type 0
   Put after = (j : ℕ) → j < length to → get_or after j 0 ≡ pick (e =? name_of (block + j)) place (get_or to j 0)
 
-  pub put_low : e ≤ block → Put to
-  put_low l j b = sym (pick_false _ _ _ (ne_eqb e (name_of (block + j)) (λ z. omega arith)))
+  pub put_none : ((j : ℕ) → j < length to → e ≡ name_of (block + j) → ⊥) → Put to
+  put_none f j b = sym (pick_false _ _ _ (ne_eqb e (name_of (block + j)) (f j b)))
 
-  pub put_high : block < e → length to ≤ e - 1 - block → Put to
-  put_high l h j b = sym (pick_false _ _ _ (ne_eqb e (name_of (block + j)) (λ z. omega arith)))
+  pub put_here : (named : ℕ) → e ≡ name_of named → block ≤ named → named - block < length to → Put (set to (named - block) place)
+  put_here named n l h j b =
+      pick_ind (λ (v : ℕ). get_or (set to (named - block) place) j 0 ≡ v) (e =? name_of (block + j)) place (get_or to j 0)
+      (λ t. let z : j ≡ named - block = omega (arith, eqb-true e (name_of (block + j)) t) in rw z (get_or-set_same to (named - block) place 0 h))
+      (λ t. get_or-set_other to (named - block) j place 0 (λ z. eqb-false e (name_of (block + j)) t (omega arith)))
 
-  pub put_here : (at : ℕ) → block < e → at ≡ e - 1 - block → at < length to → Put (set to at place)
-  put_here at l a h j b =
-      pick_ind (λ (v : ℕ). get_or (set to at place) j 0 ≡ v) (e =? name_of (block + j)) place (get_or to j 0)
-      (λ t. let z : j ≡ at = omega (arith, eqb-true e (name_of (block + j)) t) in rw z (get_or-set_same to at place 0 h))
-      (λ t. get_or-set_other to at j place 0 (λ z. eqb-false e (name_of (block + j)) t (omega arith)))
+-- an entry that is a block's name says which
+pub says_name : (entry : Entry) (e block : ℕ) → Says entry e → e ≡ name_of block → e ≢ DEFECTIVE → entry ≡ Block block
+says_name Unused e block is n other = absurd (omega arith)
+says_name Defective e block is n other = absurd (other is)
+says_name (Block named) e block is n other = let z : named ≡ block = omega (arith, is.0) in ap Block z

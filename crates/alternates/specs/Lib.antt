@@ -1,2 +1,4 @@
 pub mod Used
 pub mod Placed
+pub mod Found
+pub mod Entries

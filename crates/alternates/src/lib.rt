@@ -10,13 +10,50 @@ ghost use Rattle.numbers.specs.Lowest.{any};
 ghost use Rattle.model.specs.Alternates.{map_entries, entry_size, map_size, entry_at, with_entry, name_of, lowest_with, alternate_of, unused_in, flagged, formatted, unmapped, bad_entry, bad_map};
 ghost use Rattle.alternates.specs.Used.{none_used};
 ghost use Rattle.alternates.specs.Placed.{places_from};
+ghost use Rattle.alternates.specs.Found.{Found};
+ghost use Rattle.alternates.specs.Entries.{Says, number_of};
 
 use model::sizes;
 
-// The entries that name no block.
+// What an entry says: nothing yet, that its alternate is defective for good, or which block lies there.
+#[derive(Clone, Copy)]
+enum Entry {
+    Unused,
+    Defective,
+    Block(usize),
+}
+
+// The numbers of the entries that name no block.
 const UNUSED: usize = 0;
 
 const DEFECTIVE: usize = 0xFFFFFFFF;
+
+impl From<usize> for Entry {
+    ghost from_gives = { λ number entry. Says entry number };
+
+    // What a number of the map says.
+    fn from(number: usize) -> Entry {
+        match number {
+            UNUSED => Entry::Unused,
+            DEFECTIVE => Entry::Defective,
+            name => Entry::Block(name - 1),
+        }
+    }
+}
+
+impl Entry {
+    // Its number in the map.
+    fn number(self) -> usize
+        requires { number_of self < 4294967296 }
+        ensures { result ≡ number_of self }
+    {
+        match self {
+            Entry::Unused => UNUSED,
+            Entry::Defective => DEFECTIVE,
+            Entry::Block(block) => block + 1,
+        }
+    }
+}
 
 // The buckets of entries that were met.
 const BUCKETS: usize = 256;
@@ -26,15 +63,11 @@ pub fn none_used(map: &[u8]) -> bool
     requires { length map.now ≡ map_size }
     ensures { result ≡ none_used map.now }
 {
-    let mut bits = 0u8;
-    for i in 0..sizes::MAP {
-        bits = bits | map[i];
-    }
-    bits == 0
+    map[..sizes::MAP].iter().fold(0, |bits, b| bits | *b) == 0
 }
 
-// Entry i of the map.
-fn entry_at(map: &[u8], i: usize) -> usize
+// The number of entry i of the map.
+fn number_at(map: &[u8], i: usize) -> usize
     requires { i * entry_size + entry_size ≤ length map.now }
     ensures { (result ≡ entry_at map.now i) × (result < 4294967296) }
 {
@@ -46,12 +79,7 @@ fn named_before(map: &[u8], i: usize, e: usize) -> bool
     requires { (length map.now ≡ map_size) × (i ≤ map_entries) }
     ensures { result ≡ any (λ j. entry_at map.now j =? e) i }
 {
-    for j in 0..i {
-        if entry_at(map, j) == e {
-            return true;
-        }
-    }
-    false
+    (0..i).any(|j| number_at(map, j) == e)
 }
 
 // Entry i, which is e, is wrong. Where none of its bucket was `met`, no entry before it is e.
@@ -67,22 +95,12 @@ fn entry_wrong(
     requires unmet { met ≡ false → any (λ j. entry_at map.now j =? e) i ≡ false }
     ensures { result ≡ bad_entry map.now alternates primaries i }
 {
-    if e == UNUSED {
-        return false;
+    match Entry::from(e) {
+        Entry::Unused => false,
+        _ if alternates <= i => true,
+        Entry::Defective => false,
+        Entry::Block(block) => primaries <= block || met && named_before(map, i, e),
     }
-    if alternates <= i {
-        return true;
-    }
-    if e == DEFECTIVE {
-        return false;
-    }
-    if primaries < e {
-        return true;
-    }
-    if !met {
-        return false;
-    }
-    named_before(map, i, e)
 }
 
 // An entry of the map is wrong: cause 8's rule, for a map that is in use.
@@ -90,16 +108,14 @@ pub fn entries_wrong(alternates: usize, primaries: usize, map: &[u8]) -> bool
     requires { length map.now ≡ map_size }
     ensures { result ≡ bad_map map.now alternates primaries }
 {
-    let mut met = [0u8; BUCKETS];
-    let mut i = 0;
-    while i < sizes::ENTRIES {
-        let e = entry_at(map, i);
+    let mut met = [false; BUCKETS];
+    for i in 0..sizes::ENTRIES {
+        let e = number_at(map, i);
         let bucket = e % BUCKETS;
-        if entry_wrong(alternates, primaries, map, i, e, met[bucket] != 0) {
+        if entry_wrong(alternates, primaries, map, i, e, met[bucket]) {
             return true;
         }
-        met[bucket] = 1;
-        i += 1;
+        met[bucket] = true;
     }
     false
 }
@@ -117,14 +133,13 @@ pub fn map_wrong(alternates: usize, primaries: usize, map: &[u8]) -> bool
 
 // Of the blocks from `block` on, the one that e names gets this place.
 fn put_place(to: &mut [usize], block: usize, e: usize, place: usize)
+    requires { block + length to.old ≤ 131072 }
     ensures { (j : ℕ) → j < length to.old → get_or to.new j 0 ≡ pick (e =? name_of (block + j)) place (get_or to.old j 0) }
 {
-    if e <= block {
-        return;
-    }
-    let at = e - 1 - block;
-    if at < to.len() {
-        to[at] = place;
+    if let Entry::Block(named) = Entry::from(e) {
+        if block <= named && named - block < to.len() {
+            to[named - block] = place;
+        }
     }
 }
 
@@ -133,8 +148,8 @@ fn own_places(block: usize, to: &mut [usize])
     requires { block + length to.old ≤ 131072 }
     ensures { (j : ℕ) → j < length to.old → get_or to.new j 0 ≡ block + j }
 {
-    for j in 0..to.len() {
-        to[j] = block + j;
+    for (j, place) in to.iter_mut().enumerate() {
+        *place = block + j;
     }
 }
 
@@ -144,50 +159,42 @@ pub fn places(alternates: usize, primaries: usize, map: &[u8], block: usize, to:
     ensures { to.new ≡ places_from map.now alternates primaries block (length to.old) }
 {
     own_places(block, to);
-    let mut i = alternates;
-    while 0 < i {
-        i -= 1;
-        put_place(to, block, entry_at(map, i), primaries + i);
+    for i in (0..alternates).rev() {
+        put_place(to, block, number_at(map, i), primaries + i);
     }
 }
 
-// The lowest of n alternates whose entry is e, or n.
-fn lowest_entry(map: &[u8], n: usize, e: usize) -> usize
-    requires { (length map.now ≡ map_size) × (n ≤ map_entries) }
-    ensures { result ≡ lowest_with map.now n e }
+// The lowest of n alternates whose entry is e.
+fn lowest_entry(map: &[u8], n: usize, e: Entry) -> Option<usize>
+    requires { (length map.now ≡ map_size) × (n ≤ map_entries) × (number_of e < 4294967296) }
+    ensures { Found n (lowest_with map.now n (number_of e)) result }
 {
-    let mut i = 0;
-    while i < n {
-        if entry_at(map, i) == e {
-            return i;
-        }
-        i += 1;
-    }
-    n
+    let number = e.number();
+    (0..n).find(|i| number_at(map, *i) == number)
 }
 
-// The lowest alternate that is unused, or their number.
-pub fn unused(alternates: usize, map: &[u8]) -> usize
+// The lowest alternate that is unused.
+pub fn unused(alternates: usize, map: &[u8]) -> Option<usize>
     requires { (length map.now ≡ map_size) × (alternates ≤ map_entries) }
-    ensures { result ≡ unused_in map.now alternates }
+    ensures { Found alternates (unused_in map.now alternates) result }
 {
-    lowest_entry(map, alternates, UNUSED)
+    lowest_entry(map, alternates, Entry::Unused)
 }
 
-// The alternate where the block lies, or their number where it lies at its own place.
-pub fn alternate_of(alternates: usize, map: &[u8], block: usize) -> usize
+// The alternate where the block lies, if it does not lie at its own place.
+pub fn alternate_of(alternates: usize, map: &[u8], block: usize) -> Option<usize>
     requires { (length map.now ≡ map_size) × (alternates ≤ map_entries) × (block < 131072) }
-    ensures { result ≡ alternate_of map.now alternates block }
+    ensures { Found alternates (alternate_of map.now alternates block) result }
 {
-    lowest_entry(map, alternates, block + 1)
+    lowest_entry(map, alternates, Entry::Block(block))
 }
 
 // Entry i is e now.
-fn put_entry(map: &mut [u8], i: usize, e: usize)
-    requires { (length map.old ≡ map_size) × (i < map_entries) }
-    ensures { map.new ≡ with_entry map.old i e }
+fn put_entry(map: &mut [u8], i: usize, e: Entry)
+    requires { (length map.old ≡ map_size) × (i < map_entries) × (number_of e < 4294967296) }
+    ensures { map.new ≡ with_entry map.old i (number_of e) }
 {
-    let bytes = numbers::bytes4(e);
+    let bytes = numbers::bytes4(e.number());
     slices::put_at(map, i * sizes::ENTRY, &bytes, sizes::ENTRY);
 }
 
@@ -196,9 +203,8 @@ fn flag_old(alternates: usize, map: &mut [u8], block: usize)
     requires { (length map.old ≡ map_size) × (alternates ≤ map_entries) × (block < 131072) }
     ensures { map.new ≡ flagged map.old alternates block }
 {
-    let old = alternate_of(alternates, map, block);
-    if old < alternates {
-        put_entry(map, old, DEFECTIVE);
+    if let Some(old) = alternate_of(alternates, map, block) {
+        put_entry(map, old, Entry::Defective);
     }
 }
 
@@ -207,9 +213,9 @@ pub fn format_block(alternates: usize, map: &mut [u8], block: usize)
     requires { (length map.old ≡ map_size) × (alternates ≤ map_entries) × (unused_in map.old alternates < alternates) × (block < 131072) }
     ensures { map.new ≡ formatted map.old alternates block }
 {
-    let taken = unused(alternates, map);
+    let taken = unused(alternates, map).unwrap();
     flag_old(alternates, map, block);
-    put_entry(map, taken, block + 1);
+    put_entry(map, taken, Entry::Block(block));
 }
 
 // The map once the alternate of the block is given back: it is unused.
@@ -217,6 +223,6 @@ pub fn unmap(alternates: usize, map: &mut [u8], block: usize)
     requires { (length map.old ≡ map_size) × (alternates ≤ map_entries) × (alternate_of map.old alternates block < alternates) × (block < 131072) }
     ensures { map.new ≡ unmapped map.old alternates block }
 {
-    let freed = alternate_of(alternates, map, block);
-    put_entry(map, freed, UNUSED);
+    let freed = alternate_of(alternates, map, block).unwrap();
+    put_entry(map, freed, Entry::Unused);
 }

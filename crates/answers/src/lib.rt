@@ -17,7 +17,7 @@ use endings::Answer;
 use model::decoded::{Area, Decoded};
 use model::status::ChannelStatus;
 use model::{answer, sizes};
-use slices::{clear, put_at};
+use slices::put_at;
 
 // A wrong length is the channel's to mark, in its status.
 fn mark(answers: &mut [u8], at: usize, wrong: bool)
@@ -55,18 +55,16 @@ fn spread_leaving(chain: &[u8], a: Area, left: usize) -> Spread
     ensures over { (result.filled ≡ (spread_leaving chain.now a left).filled) × (result.residual ≡ (spread_leaving chain.now a left).residual) }
     ensures small { (result.filled ≤ a.end - a.next) × (result.residual < 65536) }
 {
-    let mut end = a.end;
     let mut over = left;
-    while a.next < end {
-        let p = piece_at(chain, end - 1);
+    for i in (a.next..a.end).rev() {
+        let p = piece_at(chain, i);
         if over < p.count {
             return Spread {
-                filled: end - a.next,
+                filled: i + 1 - a.next,
                 residual: over,
             };
         }
         over -= p.count;
-        end -= 1;
     }
     Spread {
         filled: 0,
@@ -84,7 +82,7 @@ fn clear_answers(answers: &mut [u8], from: usize, n: usize)
     }
     let at = from * sizes::ANSWER;
     let end = (from + n) * sizes::ANSWER;
-    clear(&mut answers[at..end]);
+    answers[at..end].fill(0);
 }
 
 // The answer of the last piece reached, with what is left of that piece's count, is answer i. How many there are then.
@@ -98,7 +96,7 @@ fn put_last(answers: &mut [u8], i: usize, last: Answer, residual: usize, wrong: 
         i,
         Answer {
             front: last.front + residual,
-            back: last.back,
+            ..last
         },
         wrong,
     );

@@ -1,7 +1,10 @@
 -- Blocks in a row, and one row more, or one window more, of the blocks of a READ and of a WRITE. No contract cites this file.
 --     blocks_few         a store has no more blocks than bytes
 --     place_of           where a block lies, of those whose places are listed
---     row_one, row_more  a place is a row, and one place more
+--     RowAt, row_cut, row_chunked
+--                        a row of places, which is cut off what is left of them
+--     Behind, behind_none, behind_next
+--                        what is left of them, before the first row and behind a row
 --     row_within         a row lies in the store
 --     row_read, row_stored
 --                        it is one part of the store: what READ sees of its blocks, and what WRITE leaves there
@@ -11,17 +14,17 @@
 --                        before the first blocks, where there are more, at some of them, behind these, and behind the last
 --     read_turn, store_turn
 --                        some blocks, a row or a window, and those behind them: what was moved and what is left make the whole
-use Prim.Native.Nat.{ℕ, ◌+◌, ◌-◌, ◌*◌, ◌/◌, ◌≤◌, ◌<◌, min}
+use Prim.Native.Nat.{ℕ, zero, suc, ◌+◌, ◌-◌, ◌*◌, ◌/◌, ◌≤◌, ◌<◌, min}
 use mathlib.Core.Path.{◌≡◌, refl, sym, ap, ◌∙◌}
 use mathlib.Core.Logic.{◌⊎◌, inl, inr, ⊎_elim}
 use mathlib.Core.Bool.{Bool, true, false, ◌||◌}
 use mathlib.Core.List.{List, ◌++◌, append-nil}
-use lib.ListN.{length, get_or, take, drop, length-take}
-use lib.Seq.{take-take, take_all, take-length, length-take-le, take-append-le, take-append-add}
+use lib.ListN.{length, get_or, take, drop, length-take, length-append, get_or-append}
+use lib.Seq.{drop-drop, drop-append_seam, take-take, take_all, take-length, length-take-le, take-append-le, take-append-add}
 use native.Mathlib.Nat.{add-zero, zero-mul, mul-le-mul_left, mul-le-mul_right, div-mul-le_self}
 use native.Mathlib.Decide.{dec_le}
 use native.Mathlib.Omega.{arith}
-use borrow.Author.Count.{below_more}
+use Rattle.std.proofs.lemmas.List.{get_or-drop}
 use borrow.Author.Tests.{eqb-true}
 use Rattle.numbers.specs.Choice.{◌=?◌}
 use Rattle.slices.specs.Parts.{part, put, pad}
@@ -32,7 +35,7 @@ use Rattle.model.specs.Alternates.{lies}
 use Rattle.model.specs.Lent.{store_blocks, block_count, blocks_from, blocks_into}
 use Rattle.model.specs.Pieces.{bytes_in, scattered}
 use Rattle.model.specs.Decoded.{area_of}
-use Rattle.model.specs.Safe.{InArea}
+use Rattle.model.specs.Safe.{Usable, InArea}
 use Rattle.model.proofs.Alternates.{lies_unmapped}
 use Rattle.model.proofs.Blocks.{Row, row_same, row_from_part, row_into_part, blocks_from_more, blocks_from_length, blocks_into_more, blocks_into_enough}
 use Rattle.storage.specs.Area.{Rest}
@@ -40,7 +43,11 @@ use Rattle.storage.proofs.Beyond.{rest_none, rest_more, rest_area, gathered_rest
 use Rattle.alternates.specs.Used.{none_used}
 use Rattle.alternates.proofs.NoneUsed.{none_lies}
 use Rattle.alternates.proofs.Placing.{get_places}
-use Rattle.blocks.specs.Places.{PlacesOf, RowAt, no_alternate}
+use denote.Param.Members.{Mut}
+use denote.Ref.{Bor}
+use Rattle.std.specs.Fn.{ComputesOnPairs}
+use Rattle.std.specs.List.{AllAdjacentBelow, IsChunkByPrefix}
+use Rattle.blocks.specs.Places.{PlacesOf, follows, no_alternate}
 
 -- rows
 
@@ -54,40 +61,87 @@ pub place_of : (dev : Device) (map store : List ℕ) (block : ℕ) (at : List �
     → get_or at j 0 ≡ lies map dev.alternates (block_count dev store) (block + j)
 place_of dev map store block at j p b = ap (λ (l : List ℕ). get_or l j 0) p.places ∙ get_places map dev.alternates (block_count dev store) block (length at) j b
 
-module _ (at : List ℕ) (j : ℕ) where
-  pub row_one : j < length at → RowAt at j 1
-  row_one h = record {
-    some = omega arith;
-    inside = omega (arith, h);
-    row = λ i b. let z : i ≡ 0 = omega (arith, b) in rw (z, add-zero j, add-zero (get_or at j 0)) refl;
+-- the row at the front of what is left of the places, from the one at j on
+pub record RowAt (at : List ℕ) (j : ℕ) (row : List ℕ) : Type 0 where
+  pub some : 1 ≤ length row
+  pub inside : j + length row ≤ length at
+  pub places : (i : ℕ) → i < length row → get_or at (j + i) 0 ≡ get_or row 0 0 + i
+
+-- what is left of the places, behind the rows before
+pub record Behind (at rest : List ℕ) : Type 0 where
+  pub few : length rest ≤ length at
+  pub is : rest ≡ drop (length at - length rest) at
+
+pub behind_none : (at : List ℕ) → Behind at at
+behind_none at = let none : length at - length at ≡ 0 = omega arith in record { few = omega arith; is = rw none refl }
+
+module _ (at rest row behind : List ℕ) (b : Behind at rest) (cut : rest ≡ row ++ behind) (some : 0 < length row) where
+  pub cut_length : length rest ≡ length row + length behind
+  cut_length = ap length cut ∙ length-append row behind
+
+  pub behind_next : Behind at behind
+  behind_next =
+      let few : length behind ≤ length at = omega (arith, b.few, cut_length) in
+      let all : length at - length rest + length row ≡ length at - length behind = omega (arith, b.few, cut_length) in
+      record {
+        few = few;
+        is = sym (drop-append_seam row behind) ∙ ap (drop (length row)) (sym cut ∙ b.is) ∙ rw (drop-drop, all) refl;
+      }
+
+  -- each is the place behind the one before it
+  row_cut : ((i : ℕ) → i < length at → get_or at i 0 + 1 < 18446744073709551616) → AllAdjacentBelow (λ p q. follows p q ≡ true) rest (length row)
+      → RowAt at (length at - length rest) row
+  row_cut low next = record {
+    some = some;
+    inside = omega (arith, b.few, cut_length);
+    places = λ i l. sym (left i) ∙ go i l ∙ ap (λ (p : ℕ). p + i) (ap (λ (l : List ℕ). get_or l 0 0) cut ∙ get_or-append row behind 0 0 some);
   }
+    where
+      left : (i : ℕ) → get_or rest i 0 ≡ get_or at (length at - length rest + i) 0
+      left i = ap (λ (l : List ℕ). get_or l i 0) b.is ∙ get_or-drop (length at - length rest) at i 0
 
-  pub row_more : (r : ℕ) → RowAt at j r → j + r < length at → get_or at (j + r) 0 ≡ get_or at j 0 + r → RowAt at j (r + 1)
-  row_more r x h e = record { some = omega arith; inside = omega (arith, h); row = below_more _ _ x.row e }
+      go : (i : ℕ) → i < length row → get_or rest i 0 ≡ get_or rest 0 0 + i
+      go zero l = sym (add-zero (get_or rest 0 0))
+      go (suc i) l =
+          let more : get_or at (length at - length rest + i) 0 + 1 < 18446744073709551616 = low (length at - length rest + i) (omega (arith, b.few, cut_length)) in
+          let z : i + 1 ≡ suc i = omega arith in
+          let e = rw z at (next i 0 (omega arith)) in
+          omega (arith, left i, more, go i (omega arith), eqb-true _ _ e)
 
-  pub row_within : (dev : Device) (store : List ℕ) (r : ℕ) → ((i : ℕ) → i < length at → get_or at i 0 < store_blocks dev store) → RowAt at j r
-      → get_or at j 0 * dev.block + r * dev.block ≤ length store
+-- the same, of what `chunk_by` cut off by `follows`, of places that lie in a store
+pub row_chunked : {F : Type 0} {g : Mut F (Bor ℕ × (Bor ℕ × Unit {0})) Bool} {f f' : F} (at rest row behind : List ℕ) → Behind at rest → ComputesOnPairs g follows f
+    → (rest ≡ row ++ behind) × (0 < length row) × ((e : ℕ → ℕ → Bool) → ComputesOnPairs g e f → ComputesOnPairs g e f' × IsChunkByPrefix e rest (length row))
+    → (dev : Device) (store : List ℕ) → Usable dev → length store < 18446744073709551616 → ((i : ℕ) → i < length at → get_or at i 0 < store_blocks dev store)
+    → RowAt at (length at - length rest) row
+row_chunked at rest row behind b all cut dev store usable long stored =
+    row_cut at rest row behind b cut.0 cut.1 (λ i l. omega (arith, stored i l, blocks_few dev store usable.some_size, long)) (cut.2 follows all).1.0
+
+module _ (at : List ℕ) (j : ℕ) (row : List ℕ) (x : RowAt at j row) where
+  abbrev first : ℕ
+  first = get_or row 0 0
+
+  pub row_within : (dev : Device) (store : List ℕ) → ((i : ℕ) → i < length at → get_or at i 0 < store_blocks dev store) → first * dev.block + length row * dev.block ≤ length store
   unfolding store_blocks
-  row_within dev store r s x =
-      let last = x.row (r - 1) (omega (arith, x.some)) in
-      let below = s (j + (r - 1)) (omega (arith, x.some, x.inside)) in
-      let all : get_or at j 0 + r ≤ length store / dev.block = omega (arith, last, below, x.some) in
+  row_within dev store s =
+      let last = x.places (length row - 1) (omega (arith, x.some)) in
+      let below = s (j + (length row - 1)) (omega (arith, x.some, x.inside)) in
+      let all : first + length row ≤ length store / dev.block = omega (arith, last, below, x.some) in
       omega (arith, mul-le-mul_right dev.block all, div-mul-le_self (length store) dev.block)
 
-  row_of : (dev : Device) (map store : List ℕ) (block r : ℕ) → PlacesOf dev map store block at → RowAt at j r → Row dev map store (block + j) r (get_or at j 0)
-  row_of dev map store block r p x i b =
+  row_of : (dev : Device) (map store : List ℕ) (block : ℕ) → PlacesOf dev map store block at → Row dev map store (block + j) (length row) first
+  row_of dev map store block p i b =
       let same : block + j + i ≡ block + (j + i) = omega arith in
-      rw same (sym (place_of dev map store block at (j + i) p (omega (arith, x.inside, b))) ∙ x.row i b)
+      rw same (sym (place_of dev map store block at (j + i) p (omega (arith, x.inside, b))) ∙ x.places i b)
 
   -- the bytes of a row, as READ sees them and as WRITE leaves them; `now` is a store as long
-  pub row_read : (dev : Device) (map store : List ℕ) (block r : ℕ) → PlacesOf dev map store block at → RowAt at j r
-      → part store (get_or at j 0 * dev.block) (r * dev.block) ≡ blocks_from dev map store (block + j) r
-  row_read dev map store block r p x = sym (row_from_part dev map store (block + j) r (get_or at j 0) (row_of dev map store block r p x))
+  pub row_read : (dev : Device) (map store : List ℕ) (block : ℕ) → PlacesOf dev map store block at
+      → part store (first * dev.block) (length row * dev.block) ≡ blocks_from dev map store (block + j) (length row)
+  row_read dev map store block p = sym (row_from_part dev map store (block + j) (length row) first (row_of dev map store block p))
 
-  pub row_stored : (dev : Device) (map store now : List ℕ) (block r : ℕ) (bytes : List ℕ) → PlacesOf dev map store block at → RowAt at j r → length store ≡ length now
-      → get_or at j 0 * dev.block + r * dev.block ≤ length now → put now (get_or at j 0 * dev.block) (pad (r * dev.block) bytes) ≡ blocks_into dev map now (block + j) r bytes
-  row_stored dev map store now block r bytes p x e h =
-      sym (row_into_part dev map now (block + j) r (get_or at j 0) bytes (row_same dev map store now (block + j) r (get_or at j 0) e (row_of dev map store block r p x)) h)
+  pub row_stored : (dev : Device) (map store now : List ℕ) (block : ℕ) (bytes : List ℕ) → PlacesOf dev map store block at → length store ≡ length now
+      → first * dev.block + length row * dev.block ≤ length now → put now (first * dev.block) (pad (length row * dev.block) bytes) ≡ blocks_into dev map now (block + j) (length row) bytes
+  row_stored dev map store now block bytes p e h =
+      sym (row_into_part dev map now (block + j) (length row) first bytes (row_same dev map store now (block + j) (length row) first e (row_of dev map store block p)) h)
 
 either : (x y : Bool) → x || y ≡ true → (x ≡ true) ⊎ (y ≡ true)
 either true y e = inl refl

@@ -3,10 +3,10 @@
 --     RowMovable    the same, of so many blocks that lie in a row from a place on
 --     AllMovable    the same, of the blocks whose places are listed
 --     PlacesOf      such a list is that of the device's blocks from one on
---     RowAt         from the one at j on, so many places of a list lie in a row, one at least
+--     follows       the next of two places is behind the other
 --     no_alternate  no alternate of the device is in use: each block lies at its own place
 -- Assumes nothing.
-use Rattle.std.specs.Prelude.{ℕ, ◌+◌, ◌*◌, ◌≤◌, ◌<◌, ◌≡◌, Bool, ◌||◌, List, length, get_or}
+use Rattle.std.specs.Prelude.{ℕ, ◌+◌, ◌*◌, ◌%◌, ◌≤◌, ◌<◌, ◌≡◌, Bool, ◌||◌, List, length, get_or}
 use Rattle.numbers.specs.Choice.{◌=?◌}
 use Rattle.model.specs.declared.decoded.Area.{Area}
 use Rattle.model.specs.declared.device.Device.{Device}
@@ -36,10 +36,9 @@ pub record PlacesOf (dev : Device) (map store : List ℕ) (block : ℕ) (at : Li
   pub stored : block + length at ≤ block_count dev store
   pub places : at ≡ places_from map dev.alternates (block_count dev store) block (length at)
 
-pub record RowAt (at : List ℕ) (j n : ℕ) : Type 0 where
-  pub some : 1 ≤ n
-  pub inside : j + n ≤ length at
-  pub row : (i : ℕ) → i < n → get_or at (j + i) 0 ≡ get_or at j 0 + i
+-- places are far below 2^64
+abbrev pub follows : ℕ → ℕ → Bool
+follows place next = (place + 1) % 18446744073709551616 =? next
 
 unfoldable pub no_alternate : Device → List ℕ → Bool
 no_alternate dev map = dev.alternates =? 0 || none_used map

@@ -1,7 +1,8 @@
 // The blocks of a device: how many there are, those of a READ and of a WRITE (`read_blocks`, `store_blocks`), and one that goes from its
 // alternate to its own place (`bring_home`). Where no alternate is in use, blocks lie one after another, and a transfer is one part of the
 // store. Else it goes by windows of blocks: `places` tells where each lies, and those that lie in a row are one part. Nothing here is
-// refused: a caller proves that the blocks are the device's, and the bytes in the data area.
+// refused: a caller proves that the blocks are the device's, and the bytes in the data area. What READ does has its mirror in what WRITE
+// does: the store is lent to be read by one and to be written by the other, and no type of a reference is both.
 #![tactic(auto)]
 
 ghost use Rattle.std.specs.Prelude.{◌≡◌, List, ℕ, ◌+◌, ◌*◌, ◌≤◌, ◌<◌, length, get_or, take};
@@ -14,12 +15,12 @@ ghost use Rattle.model.specs.Commands.{begun};
 ghost use Rattle.model.specs.GiveBack.{brought_home};
 ghost use Rattle.model.specs.Safe.{Usable, Mounted, InArea};
 ghost use Rattle.storage.specs.Area.{Rest};
-ghost use Rattle.blocks.specs.Places.{Movable, RowMovable, AllMovable, PlacesOf, RowAt, no_alternate};
+ghost use Rattle.blocks.specs.Places.{Movable, RowMovable, AllMovable, PlacesOf, follows, no_alternate};
 
 use alternates::{alternate_of, none_used, places};
 use model::decoded::Area;
 use model::device::Device;
-use slices::{clear, copy_within, least};
+use slices::copy_within;
 use storage::{deliver, fetch, skip};
 
 // The blocks whose places are asked for at a time.
@@ -52,20 +53,11 @@ fn no_alternate(d: Device, map: &[u8]) -> bool
     none_used(map)
 }
 
-// How many places from the one at j on lie in a row.
-fn row_from(at: &[usize], j: usize) -> usize
-    requires { (j < length at.now) × (get_or at.now j 0 + length at.now < 18446744073709551616) }
-    ensures { RowAt at.now j result }
+// The next of two places is behind the other, so that their blocks are of one row.
+fn follows(place: &usize, next: &usize) -> bool
+    ensures { result ≡ follows place.now next.now }
 {
-    let first = at[j];
-    let mut r = 1;
-    while r < at.len() - j {
-        if at[j + r] != first + r {
-            return r;
-        }
-        r += 1;
-    }
-    r
+    place.wrapping_add(1) == *next
 }
 
 // n bytes of the blocks that lie in a row from a place on go to the front of the data area.
@@ -85,7 +77,7 @@ fn read_row(
 {
     let start = at * d.block;
     let end = start + blocks * d.block;
-    deliver(chain, a, main, &store[start..end], n);
+    deliver(chain, a, main, &store[start..end][..n]);
 }
 
 // n bytes of the blocks at these places go to the front of the data area, row by row. It returns what is left of the area.
@@ -104,14 +96,14 @@ fn read_window(
         ≡ scattered (area_of chain.now a) main.old (take n (blocks_from d map store.now block (length at.now))) }
 {
     let mut into = a;
-    let mut j = 0;
     let mut left = n;
-    while 0 < left {
-        let r = row_from(at, j);
-        let k = least(r * d.block, left);
-        read_row(d, store, at[j], r, chain, into, main, k);
+    for row in at.chunk_by(follows) {
+        if left == 0 {
+            return into;
+        }
+        let k = (row.len() * d.block).min(left);
+        read_row(d, store, row[0], row.len(), chain, into, main, k);
         into = skip(chain, into, k);
-        j += r;
         left -= k;
     }
     into
@@ -159,11 +151,13 @@ pub fn read_mapped(
 {
     let primaries = block_count(d, store);
     let mut into = a;
-    let mut here = block;
     let mut left = n;
-    while 0 < left {
-        let w = least(WINDOW, block + blocks - here);
-        let k = least(w * d.block, left);
+    for here in (block..block + blocks).step_by(WINDOW) {
+        if left == 0 {
+            return;
+        }
+        let w = WINDOW.min(block + blocks - here);
+        let k = (w * d.block).min(left);
         let mut at = [0usize; WINDOW];
         into = read_placed(
             d,
@@ -177,7 +171,6 @@ pub fn read_mapped(
             main,
             k,
         );
-        here += w;
         left -= k;
     }
 }
@@ -210,8 +203,8 @@ fn fill(part: &mut [u8], chain: &[u8], a: Area, main: &[u8], n: usize)
     requires { (n ≤ length part.old) × InArea chain.now a main.now n }
     ensures { part.new ≡ pad (length part.old) (take n (bytes_in (area_of chain.now a) main.now)) }
 {
-    fetch(chain, a, main, part, n);
-    clear(&mut part[n..]);
+    fetch(chain, a, main, &mut part[..n]);
+    part[n..].fill(0);
 }
 
 // n bytes of the data area, and zeros where they run out, go to the blocks that lie in a row from a place on.
@@ -250,14 +243,11 @@ fn store_window(
         ≡ blocks_into d map store.old block (length at.now) (take n (bytes_in (area_of chain.now a) main.now)) }
 {
     let mut from = a;
-    let mut j = 0;
     let mut left = n;
-    while j < at.len() {
-        let r = row_from(at, j);
-        let k = least(r * d.block, left);
-        store_row(d, store, at[j], r, chain, from, main, k);
+    for room in at.chunk_by(follows) {
+        let k = (room.len() * d.block).min(left);
+        store_row(d, store, room[0], room.len(), chain, from, main, k);
         from = skip(chain, from, k);
-        j += r;
         left -= k;
     }
     from
@@ -305,11 +295,10 @@ fn store_mapped(
     let primaries = block_count(d, store);
     let end = block + blocks;
     let mut from = a;
-    let mut here = block;
     let mut left = n;
-    while here < end {
-        let w = least(WINDOW, end - here);
-        let k = least(w * d.block, left);
+    for here in (block..end).step_by(WINDOW) {
+        let w = WINDOW.min(end - here);
+        let k = (w * d.block).min(left);
         let mut at = [0usize; WINDOW];
         from = store_placed(
             d,
@@ -323,7 +312,6 @@ fn store_mapped(
             main,
             k,
         );
-        here += w;
         left -= k;
     }
 }
@@ -356,9 +344,9 @@ pub fn bring_home(d: Device, store: &mut [u8], map: &[u8], block: usize)
     requires { Mounted d store.old map.now × (block < block_count d store.old) × (alternate_of map.now d.alternates block < d.alternates) }
     ensures { store.new ≡ brought_home d map.now store.old block }
 {
-    let alternate = alternate_of(d.alternates, map, block);
+    let alternate = alternate_of(d.alternates, map, block).unwrap();
     let start = (block_count(d, store) + alternate) * d.block;
     let end = start + d.block;
     copy_within(store, start, block * d.block, d.block);
-    clear(&mut store[start..end]);
+    store[start..end].fill(0);
 }

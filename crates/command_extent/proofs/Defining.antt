@@ -4,11 +4,10 @@ use Prim.Native.Nat.{ℕ, ◌≤◌}
 use mathlib.Core.Path.{◌≡◌, refl, sym, ap, ◌∙◌}
 use mathlib.Core.Bool.{false, and-false}
 use mathlib.Core.List.{List}
-use lib.ListN.{take}
 use native.Mathlib.Omega.{arith}
 use borrow.Author.Tests.{le-ltb, ne_eqb}
 use Rattle.numbers.proofs.Choice.{pick_false}
-use Rattle.slices.specs.Parts.{zeros, put}
+use Rattle.slices.specs.Parts.{zeros}
 use Rattle.model.specs.declared.decoded.Decoded.{Decoded}
 use Rattle.model.specs.declared.device.Device.{Device}
 use Rattle.model.specs.declared.record.UnitRecord.{UnitRecord}
@@ -16,7 +15,7 @@ use Rattle.model.specs.declared.state.Before.TheVariants.{Other}
 use Rattle.model.specs.Names.{DEFINE_EXTENT}
 use Rattle.model.specs.Rules.{first_of}
 use Rattle.model.specs.Lent.{block_count}
-use Rattle.model.specs.Pieces.{Command, pieces, total, bytes_in, fetched}
+use Rattle.model.specs.Pieces.{Command, total, fetched}
 use Rattle.model.specs.Decoded.{command_of}
 use Rattle.model.specs.Parameters.{extent_length, extent_in, locate_length}
 use Rattle.model.specs.Causes.{extent_causes, define_extent_causes}
@@ -25,7 +24,6 @@ use Rattle.model.specs.Commands.{out, ended, cleared, define_done, define_extent
 use Rattle.model.proofs.Verdicts.{first_later, never_given}
 use Rattle.model.proofs.Read.{extent_reads}
 use Rattle.model.proofs.Steps.{performed_as}
-use Rattle.storage.proofs.Laws.{fetched_array}
 use Rattle.unit_state.specs.declared.Running.{Running}
 use Rattle.unit_state.specs.Standing.{with_extent, state_of, Handed}
 use Rattle.unit_state.proofs.Units.{with_extent_lem, same_counts}
@@ -45,12 +43,11 @@ module _ (u : UnitRecord) (dev : Device) (chain : List ℕ) (c : Decoded) (s : R
   defined_out p = rw (with_extent_lem u s s.counts (extent_in p) Other, same_counts u s) refl
 
   pub define_ends : (blocks : ℕ) (p : List ℕ) (r : Ended) → r ≡ defined_by dev blocks c s p → blocks ≡ block_count dev store
-      → p ≡ put (zeros extent_length) 0 (take extent_length (bytes_in (pieces it) main)) → c.command ≡ DEFINE_EXTENT → extent_length ≤ c.count → s.defined ≡ false
+      → p ≡ fetched it main extent_length → c.command ≡ DEFINE_EXTENT → extent_length ≤ c.count → s.defined ≡ false
       → Ends u it s r main store (performed dev it (state_of u s) main store)
   unfolding defined_by define_extent_causes extent_causes state_of define_extent shown fetched
-  define_ends blocks p r e b f k l n =
+  define_ends blocks p r e b bytes k l n =
       let long : extent_length ≤ total it = rw (← h.told.count) l in
-      let bytes : p ≡ fetched it main extent_length = fetched_array (pieces it) main extent_length p f h.inside long in
       let verdict : first_of (define_extent_causes dev (block_count dev store) it (state_of u s) (fetched it main extent_length)) ≡ first_of (extent_causes dev (block_count dev store) (fetched it main extent_length))
       = first_later _ _ (le-ltb _ _ long) ∙ first_later _ _ n in
       decided_by u u chain c h.told s main store _ _ _ (with_extent s s.counts (extent_in (fetched it main extent_length)) Other) extent_length (zeros locate_length) r

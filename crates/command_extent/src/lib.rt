@@ -137,6 +137,6 @@ pub fn define_extent(
         return refuse(s, Cause::SecondExtent);
     }
     let mut p = [0u8; sizes::EXTENT];
-    fetch(chain, c.area, main, &mut p, sizes::EXTENT);
+    fetch(chain, c.area, main, &mut p);
     define_by(d, block_count(d, store), c, s, &p)
 }

@@ -4,7 +4,6 @@ use Prim.Native.Nat.{ℕ, ◌≤◌}
 use mathlib.Core.Path.{◌≡◌, refl, sym, ap, ◌∙◌}
 use mathlib.Core.Bool.{false, not, and-false}
 use mathlib.Core.List.{List}
-use lib.ListN.{take}
 use borrow.Author.Tests.{le-ltb}
 use Rattle.model.specs.declared.decoded.Decoded.{Decoded}
 use Rattle.model.specs.declared.device.Device.{Device}
@@ -14,7 +13,7 @@ use Rattle.numbers.specs.Choice.{◌=?◌, pick}
 use Rattle.numbers.proofs.Choice.{pick_true, pick_false}
 use Rattle.model.specs.Names.{LOCATE}
 use Rattle.model.specs.Rules.{first_of}
-use Rattle.model.specs.Pieces.{Command, pieces, total, bytes_in, fetched}
+use Rattle.model.specs.Pieces.{Command, total, fetched}
 use Rattle.model.specs.Decoded.{command_of}
 use Rattle.model.specs.Parameters.{locate_length, located_in}
 use Rattle.model.specs.Causes.{location_causes, locate_causes}
@@ -23,10 +22,8 @@ use Rattle.model.specs.Commands.{out, ended, after, cleared, map_after, locate_d
 use Rattle.model.proofs.Verdicts.{first_later}
 use Rattle.model.proofs.Read.{location_reads}
 use Rattle.model.proofs.Steps.{performed_as}
-use Rattle.slices.specs.Parts.{zeros, put}
 use Rattle.buffered_log.specs.Counts.{with_movement}
 use Rattle.buffered_log.proofs.Counting.{movement_counted_lem}
-use Rattle.storage.proofs.Laws.{fetched_array}
 use Rattle.unit_state.specs.declared.Running.{Running}
 use Rattle.unit_state.specs.Standing.{holding, with_locate, state_of, Handed}
 use Rattle.unit_state.proofs.Units.{with_locate_lem, same_counts}
@@ -51,12 +48,11 @@ module _ (u : Record) (map : List ℕ) (dev : Device) (chain : List ℕ) (c : De
   unfolding locate_done cleared after state_of
   located_out p = rw (with_locate_lem found s (with_movement s.counts) (map_after dev map s.extent (located_in p)) (located_in p), movement_counted_lem (cleared (state_of found s)).unit s.counts, same_counts found s) refl
 
-  pub locate_ends : (p : List ℕ) (r : Ended) (map' : List ℕ) → r ≡ located_by dev found c s p → map' ≡ map_left dev found s p → p ≡ put (zeros locate_length) 0 (take locate_length (bytes_in (pieces it) main))
+  pub locate_ends : (p : List ℕ) (r : Ended) (map' : List ℕ) → r ≡ located_by dev found c s p → map' ≡ map_left dev found s p → p ≡ fetched it main locate_length
       → c.command ≡ LOCATE → not s.defined ≡ false → locate_length ≤ c.count → Ends (holding u map') it s r main store (performed dev it (state_of found s) main store)
   unfolding located_by map_left locate_causes state_of locate fetched
-  locate_ends p r map' e g f k n l =
+  locate_ends p r map' e g bytes k n l =
       let long : locate_length ≤ total it = rw (← h.told.count) l in
-      let bytes : p ≡ fetched it main locate_length = fetched_array (pieces it) main locate_length p f h.inside long in
       let cause : ℕ = first_of (location_causes dev (state_of found s) (fetched it main locate_length)) in
       let verdict : first_of (locate_causes dev it (state_of found s) (fetched it main locate_length)) ≡ cause = first_later _ _ n ∙ first_later _ _ (le-ltb _ _ long) in
       let left : map' ≡ pick (cause =? 0) (map_after dev map s.extent (located_in (fetched it main locate_length))) map = rw bytes at g in

@@ -154,7 +154,7 @@ fn none_to_take(d: Device, map: &[u8], code: u32) -> bool
     if code != operation::FORMAT {
         return false;
     }
-    d.alternates <= unused(d.alternates, map)
+    unused(d.alternates, map).is_none()
 }
 
 // What is asked for is within the extent, and the mask, the switch and the alternates allow it.
@@ -271,6 +271,6 @@ pub fn locate(
         return refuse(s, Cause::ShortLocate);
     }
     let mut p = [0u8; sizes::LOCATE];
-    fetch(chain, c.area, main, &mut p, sizes::LOCATE);
+    fetch(chain, c.area, main, &mut p);
     locate_by(d, u, c, s, map, &p)
 }

@@ -27,7 +27,7 @@ fn send(chain: &[u8], c: Decoded, s: Running, main: &mut [u8], bytes: &[u8], k: 
     ensures end { result ≡ sent_end c s (length bytes.now) k }
 {
     let n = least(c.count, bytes.len());
-    deliver(chain, c.area, main, bytes, n);
+    deliver(chain, c.area, main, &bytes[..n]);
     accept(c, s.after(k, Before::Other), n, bytes.len(), 0)
 }
 

@@ -28,6 +28,7 @@ use Rattle.model.proofs.Verdicts.{failed_upto, failed_all, none_given}
 use Rattle.model.proofs.Endings.{right_store}
 use Rattle.model.proofs.Blocks.{mounted_alternates, mounted_primaries}
 use Rattle.model.proofs.GiveBack.{returnable, give_back_refused, give_back_done}
+use Rattle.alternates.proofs.Found.{none_found}
 use Rattle.chain.proofs.Passed.{never_none, table, refused_first, passed_first}
 use Rattle.loughrella.proofs.Hosted.{usable, lent_map, with_map, map_lent, map_whole, map_stored}
 
@@ -85,7 +86,7 @@ module _ (dev : Device) (store unit : List ℕ) where
 
 pub ruleset device_rules = (map_lent, table)
 
-pub ruleset return_rules = (mounted_alternates, mounted_primaries, table)
+pub ruleset return_rules = (mounted_alternates, mounted_primaries, none_found, table)
 
 pub ruleset give_back_rules = (give_back_first, give_back_then, device_long, device_mounted)
 

@@ -43,7 +43,7 @@ fn return_cause(d: Device, store: &[u8], map: &[u8], block: usize) -> Result<(),
     if block_count(d, store) <= block {
         return Err(Cause::PastBlocks);
     }
-    if d.alternates <= alternate_of(d.alternates, map, block) {
+    if alternate_of(d.alternates, map, block).is_none() {
         return Err(Cause::NotMapped);
     }
     Ok(())

@@ -1,9 +1,9 @@
 // A command's data area in main storage: `fetch` reads from its front, `deliver` writes to its front, and no command does either by
-// itself; `skip` tells what is left of it. Nothing here is refused: the channel saw to it that the area is there.
+// itself; `skip` tells what is left of it. Nothing here is refused: the channel saw to it that the area is there. Main storage is lent to be
+// read by the one and to be written by the other, so the two are not one function.
 #![tactic(auto)]
 
 ghost use Rattle.std.specs.Prelude.{◌≡◌, ◌+◌, ◌≤◌, ◌<◌, length, take};
-ghost use Rattle.slices.specs.Parts.{put};
 ghost use Rattle.model.specs.Pieces.{counts, bytes_in, scattered};
 ghost use Rattle.model.specs.Decoded.{area_of, Stands};
 ghost use Rattle.model.specs.Safe.{InArea};
@@ -14,32 +14,34 @@ use model::ccw::Piece;
 use model::decoded::Area;
 use slices::put_at;
 
-// As `fetch`, of more bytes than the first piece has: piece by piece.
-fn gather(chain: &[u8], a: Area, main: &[u8], to: &mut [u8], n: usize)
-    requires { InArea chain.now a main.now n × (n ≤ length to.old) }
-    ensures { to.new ≡ put to.old 0 (take n (bytes_in (area_of chain.now a) main.now)) }
+// As `fetch`, of more bytes than the first piece has: piece by piece. `done` counts what is fetched: with `to` cut by `split_at_mut` at each
+// piece (tried), the proof does not know what `to` holds at the end.
+fn gather(chain: &[u8], a: Area, main: &[u8], to: &mut [u8])
+    requires { InArea chain.now a main.now (length to.old) }
+    ensures { to.new ≡ take (length to.old) (bytes_in (area_of chain.now a) main.now) }
 {
     let mut from = a;
     let mut done = 0;
-    while from.piece.count < n - done {
+    while from.piece.count < to.len() - done {
         let k = from.piece.count;
         let at = from.piece.address;
         put_at(to, done, &main[at..], k);
         done += k;
         from = next_piece(chain, from);
     }
-    let last = n - done;
+    let last = to.len() - done;
     let at = from.piece.address;
     put_at(to, done, &main[at..], last);
 }
 
-// The first n bytes of the area go to the front of `to`.
-pub fn fetch(chain: &[u8], a: Area, main: &[u8], to: &mut [u8], n: usize)
-    requires { InArea chain.now a main.now n × (n ≤ length to.old) }
-    ensures { to.new ≡ put to.old 0 (take n (bytes_in (area_of chain.now a) main.now)) }
+// The first bytes of the area fill `to`.
+pub fn fetch(chain: &[u8], a: Area, main: &[u8], to: &mut [u8])
+    requires { InArea chain.now a main.now (length to.old) }
+    ensures { to.new ≡ take (length to.old) (bytes_in (area_of chain.now a) main.now) }
 {
+    let n = to.len();
     if a.piece.count < n {
-        gather(chain, a, main, to, n);
+        gather(chain, a, main, to);
         return;
     }
     let at = a.piece.address;
@@ -47,32 +49,31 @@ pub fn fetch(chain: &[u8], a: Area, main: &[u8], to: &mut [u8], n: usize)
 }
 
 // As `deliver`, of more bytes than the first piece has: piece by piece.
-fn scatter(chain: &[u8], a: Area, main: &mut [u8], bytes: &[u8], n: usize)
-    requires { InArea chain.now a main.old n × (n ≤ length bytes.now) }
-    ensures { main.new ≡ scattered (area_of chain.now a) main.old (take n bytes.now) }
+fn scatter(chain: &[u8], a: Area, main: &mut [u8], bytes: &[u8])
+    requires { InArea chain.now a main.old (length bytes.now) }
+    ensures { main.new ≡ scattered (area_of chain.now a) main.old bytes.now }
 {
     let mut into = a;
-    let mut done = 0;
-    while into.piece.count < n - done {
+    let mut rest = bytes;
+    while into.piece.count < rest.len() {
         let k = into.piece.count;
-        put_at(main, into.piece.address, &bytes[done..], k);
-        done += k;
+        put_at(main, into.piece.address, rest, k);
+        rest = &rest[k..];
         into = next_piece(chain, into);
     }
-    let last = n - done;
-    put_at(main, into.piece.address, &bytes[done..], last);
+    put_at(main, into.piece.address, rest, rest.len());
 }
 
-// The first n of these bytes go to the area.
-pub fn deliver(chain: &[u8], a: Area, main: &mut [u8], bytes: &[u8], n: usize)
-    requires { InArea chain.now a main.old n × (n ≤ length bytes.now) }
-    ensures { main.new ≡ scattered (area_of chain.now a) main.old (take n bytes.now) }
+// These bytes go to the front of the area.
+pub fn deliver(chain: &[u8], a: Area, main: &mut [u8], bytes: &[u8])
+    requires { InArea chain.now a main.old (length bytes.now) }
+    ensures { main.new ≡ scattered (area_of chain.now a) main.old bytes.now }
 {
-    if a.piece.count < n {
-        scatter(chain, a, main, bytes, n);
+    if a.piece.count < bytes.len() {
+        scatter(chain, a, main, bytes);
         return;
     }
-    put_at(main, a.piece.address, bytes, n);
+    put_at(main, a.piece.address, bytes, bytes.len());
 }
 
 // What is left of an area behind its first n bytes. Where the first piece ends is asked to be a number that the machine holds.
@@ -87,14 +88,12 @@ pub fn skip(chain: &[u8], a: Area, n: usize) -> Area
         rest = next_piece(chain, rest);
     }
     let p = rest.piece;
-    let flags = p.flags;
     Area {
         piece: Piece {
             address: p.address + left,
             count: p.count - left,
-            flags: flags,
+            ..p
         },
-        next: rest.next,
-        end: rest.end,
+        ..rest
     }
 }

@@ -92,9 +92,21 @@ impl Running {
     pub fn carried(self) -> Running
         ensures { result ≡ self }
     {
+        let Running {
+            extent,
+            located,
+            counts,
+            before,
+            kept,
+            defined,
+        } = self;
         Running {
-            kept: self.kept,
-            ..self
+            extent,
+            located,
+            counts,
+            before,
+            kept,
+            defined,
         }
     }
 }

@@ -5,6 +5,3 @@ use Rattle.alternates.proofs.map_wrong.Goals as goal
 
 pub returns-then-none_used : goal.returns-then-none_used
 returns-then-none_used c = sym (none_right _ (sym c.none_used.ensures ∙ c.if-none_used.true) _ _)
-
-pub returns : goal.returns
-returns c = c.entries_wrong.ensures

@@ -12,7 +12,7 @@ loop-i-init c = (search rules, search rules, λ j b. c.own_places.ensures j (sea
 pub loop-i-preserved : goal.loop-i-preserved
 loop-i-preserved c =
     let l = c.loop-i in
-    (search rules, search rules, λ j b. c.put_place.ensures j (search rules) ∙ from_turn _ _ _ l.i _ _ _ c.loop-i-test.true l.invariant.0 c.entry_at.ensures.0 (l.invariant.2 j b))
+    (search rules, search rules, λ j b. c.put_place.ensures j (search rules) ∙ from_turn _ _ _ l.i _ _ _ c.loop-i-test.true l.invariant.0 c.number_at.ensures.0 (l.invariant.2 j b))
 
 pub returns : goal.returns
 returns c =

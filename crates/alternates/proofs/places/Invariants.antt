@@ -8,6 +8,3 @@ use Rattle.alternates.proofs.places.Given as goal
 abbrev pub invariant-loop-i : goal.invariant-loop-i
 invariant-loop-i l =
     (l.i ≤ l.alternates) × (length l.to ≡ length l.initial.to) × ((j : ℕ) → j < length l.initial.to → get_or l.to j 0 ≡ lies_from l.map l.alternates l.primaries l.i (l.block + j))
-
-abbrev pub decreases-loop-i : goal.decreases-loop-i
-decreases-loop-i l = l.i

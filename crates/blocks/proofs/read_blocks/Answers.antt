@@ -5,9 +5,6 @@ use Rattle.blocks.proofs.Rows.{unmapped_row}
 use Rattle.blocks.proofs.Asked.{row_movable}
 use Rattle.blocks.proofs.read_blocks.Goals as goal
 
-pub no_alternate-requires : goal.no_alternate-requires
-no_alternate-requires c = c.requires.mounted.whole_map
-
 pub read_row-requires : goal.read_row-requires
 read_row-requires c = row_movable _ _ _ _ _ _ _ _ _ c.requires
 
@@ -17,9 +14,3 @@ returns-then-no_alternate c =
     let none = sym c.no_alternate.ensures ∙ c.if-no_alternate.true in
     let row = unmapped_row a.d a.map.now a.store.now a.block a.blocks none in
     rw (row_from_part a.d a.map.now a.store.now a.block a.blocks a.block row) c.read_row.ensures
-
-pub read_mapped-requires : goal.read_mapped-requires
-read_mapped-requires c = c.requires
-
-pub returns : goal.returns
-returns c = c.read_mapped.ensures

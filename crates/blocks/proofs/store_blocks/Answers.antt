@@ -5,9 +5,6 @@ use Rattle.blocks.proofs.Rows.{unmapped_row}
 use Rattle.blocks.proofs.Asked.{row_movable}
 use Rattle.blocks.proofs.store_blocks.Goals as goal
 
-pub no_alternate-requires : goal.no_alternate-requires
-no_alternate-requires c = c.requires.mounted.whole_map
-
 pub store_row-requires : goal.store_row-requires
 store_row-requires c = row_movable _ _ _ _ _ _ _ _ _ c.requires
 
@@ -18,9 +15,3 @@ returns-then-no_alternate c =
     let row = unmapped_row a.d a.map.now a.store.now a.block a.blocks none in
     let inside = (row_movable _ _ _ _ _ _ _ _ _ c.requires).stored in
     rw (row_into_part a.d a.map.now a.store.now a.block a.blocks a.block _ row inside) c.store_row.ensures
-
-pub store_mapped-requires : goal.store_mapped-requires
-store_mapped-requires c = c.requires
-
-pub returns : goal.returns
-returns c = c.store_mapped.ensures

@@ -16,14 +16,3 @@ store_window-requires c =
     let asked = c.requires in
     let told = places_of a.d a.map.now a.store.now a.block _ a.primaries _ c.places.ensures asked.1 asked.0.stored in
     places_movable a.d a.map.now a.store.now a.block _ a.chain.now a.a a.main.now (length a.at.now) a.n asked.0 told.0 told.1
-
-pub returns : goal.returns
-returns c =
-    let a = c.args in
-    let asked = c.requires in
-    let told = places_of a.d a.map.now a.store.now a.block _ a.primaries _ c.places.ensures asked.1 asked.0.stored in
-    let moved = c.store_window.ensures in
-    record {
-      rest = moved.rest;
-      stored = rw told.0 at (moved.stored a.map.now a.block told.1);
-    }

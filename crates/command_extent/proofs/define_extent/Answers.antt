@@ -1,10 +1,10 @@
 -- `define_extent` meets its contract. 20 and 21 are lines of its table; past them the sixteen bytes are there, and decide. Assumes nothing.
 use mathlib.Core.Path.{refl, ◌∙◌}
 use native.Mathlib.Omega.{arith}
-use borrow.Author.Rules.{rules}
 use borrow.Author.Tests.{lt-ltb, le-ltb}
 use Rattle.slices.specs.Parts.{zeros}
 use Rattle.numbers.specs.Choice.{pick, one_of}
+use Rattle.model.specs.Pieces.{fetched}
 use Rattle.model.specs.Lent.{block_count}
 use Rattle.model.specs.Causes.{bytes_read, define_extent_causes}
 use Rattle.model.specs.declared.cause.Cause.TheVariants.{ShortExtent, SecondExtent}
@@ -33,7 +33,7 @@ returns-then-s c =
 pub fetch-requires : goal.fetch-requires
 fetch-requires c =
     let h = c.requires.2 in
-    (record { ccws = h.told.ccws; inside = h.inside; left = rw (← h.told.count) c.if-c-lt-EXTENT.false }, search rules)
+    record { ccws = h.told.ccws; inside = h.inside; left = rw (← h.told.count) c.if-c-lt-EXTENT.false }
 
 pub block_count-requires : goal.block_count-requires
 unfolding block_count
@@ -41,7 +41,7 @@ block_count-requires c =
     (c.requires.0, omega (arith, c.requires.1))
 
 pub returns : goal.returns
-unfolding zeros
+unfolding zeros fetched
 returns c =
     let a = c.args in
     λ u. define_ends u a.d a.chain.now a.c a.s a.main.now a.store.now c.requires.2 _ _ _ c.define_by.ensures c.block_count.ensures c.fetch.ensures c.requires.3 c.if-c-lt-EXTENT.false c.if-s.false

@@ -4,6 +4,7 @@ use borrow.Author.Rules.{rules}
 use borrow.Author.Tests.{lt-ltb, not-false}
 use Rattle.slices.specs.Parts.{zeros}
 use Rattle.numbers.specs.Choice.{pick, one_of}
+use Rattle.model.specs.Pieces.{fetched}
 use Rattle.model.specs.Causes.{bytes_read, locate_causes}
 use Rattle.model.proofs.Verdicts.{first_here, first_later}
 use Rattle.model.proofs.Steps.{performed_as}
@@ -31,14 +32,14 @@ returns-then-c-lt-LOCATE c =
 pub fetch-requires : goal.fetch-requires
 fetch-requires c =
     let h = c.requires.0 in
-    (record { ccws = h.told.ccws; inside = h.inside; left = rw (← h.told.count) c.if-c-lt-LOCATE.false }, search rules)
+    record { ccws = h.told.ccws; inside = h.inside; left = rw (← h.told.count) c.if-c-lt-LOCATE.false }
 
 pub locate_by-requires : goal.locate_by-requires
 locate_by-requires c =
     (c.requires.2, c.requires.3 (not-false _ c.if-not-s.false))
 
 pub returns : goal.returns
-unfolding zeros
+unfolding zeros fetched
 returns c =
     let a = c.args in
     λ store. locate_ends a.u a.map.now a.d a.chain.now a.c a.s a.main.now store c.requires.0 _ _ _ c.locate_by.ensures.ended c.locate_by.ensures.left c.fetch.ensures c.requires.1 c.if-not-s.false c.if-c-lt-LOCATE.false

@@ -1,8 +1,6 @@
 -- `none_to_take` meets its contract: no alternate below their number is unused. Assumes nothing.
-use mathlib.Core.Path.{◌∙◌, sym, ap}
-use lib.Dec.{leb}
 use borrow.Author.Tests.{eq-eqb, ne_eqb}
-use Rattle.numbers.proofs.Choice.{not_below}
+use Rattle.alternates.proofs.Found.{none_found}
 use Rattle.command_locate.proofs.none_to_take.Goals as goal
 
 pub returns-then-code-ne-FORMAT : goal.returns-then-code-ne-FORMAT
@@ -13,5 +11,4 @@ unused-requires c = (c.requires.whole_map, c.requires.few_alternates)
 
 pub returns : goal.returns
 returns c =
-    let a = c.args in
-    rw (eq-eqb _ _ c.if-code-ne-FORMAT.false) (ap (leb a.d.alternates) c.unused.ensures ∙ sym (not_below _ a.d.alternates))
+    rw (eq-eqb _ _ c.if-code-ne-FORMAT.false) (none_found _ _ _ _ c.unused.ensures c.is_none.ensures)

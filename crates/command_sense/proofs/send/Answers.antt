@@ -1,5 +1,6 @@
 -- `send` meets its contract. Assumes nothing.
 use Rattle.model.specs.Pieces.{delivered}
+use lib.ListN.{length-take}
 use native.Mathlib.Omega.{arith}
 use Rattle.command_sense.proofs.send.Goals as goal
 
@@ -7,7 +8,7 @@ pub deliver-requires : goal.deliver-requires
 deliver-requires c =
     let n = c.least-n.ensures in
     let h = c.requires in
-    (record { ccws = h.told.ccws; inside = h.inside; left = omega (arith, n, h.told.count) }, omega (arith, n))
+    record { ccws = h.told.ccws; inside = h.inside; left = omega (arith, n, h.told.count, length-take c.least-n.result c.args.bytes.now) }
 
 pub returns : goal.returns
 unfolding delivered

@@ -1,19 +1,15 @@
 -- `fetch` meets its contract: the bytes are a part of the first piece, or they are gathered. Assumes nothing.
+use mathlib.Core.Path.{◌∙◌}
 use Rattle.slices.specs.Parts.{part}
-use Rattle.slices.proofs.Laws.{rest_lent}
+use Rattle.slices.proofs.Laws.{rest_lent, put_all}
 use Rattle.model.specs.Decoded.{later_of}
-use Rattle.storage.proofs.Laws.{gathered_here}
+use Rattle.storage.proofs.Laws.{gathered_here, length_taken}
 use Rattle.storage.proofs.fetch.Goals as goal
-
-pub gather-requires : goal.gather-requires
-gather-requires c = c.requires
-
-pub returns-then-a-n : goal.returns-then-a-n
-returns-then-a-n c = c.gather.ensures
 
 pub returns : goal.returns
 unfolding part
 returns c =
     let a = c.args in
-    let here = c.if-a-n.false in
-    rw (gathered_here a.a.piece (later_of a.chain.now a.a) a.n a.main.now c.requires.0.inside.0 here, ← rest_lent) c.copy.ensures
+    let area = c.requires in
+    let here = gathered_here a.a.piece (later_of a.chain.now a.a) _ a.main.now area.inside.0 c.if-a-n.false in
+    rw (rest_lent, ← here) at c.copy.ensures ∙ put_all _ _ (length_taken _ _ _ area.inside area.left)

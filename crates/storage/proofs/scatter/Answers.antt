@@ -1,37 +1,29 @@
 -- `scatter` meets its contract. Before each piece, delivering what is left of the bytes makes the whole; the CCWs left fall. Assumes nothing.
-use mathlib.Core.Path.{refl, ◌∙◌}
-use native.Mathlib.Nat.{sub-zero}
+use mathlib.Core.Path.{sym, ◌∙◌}
+use lib.ListN.{length, length-drop}
+use lib.Seq.{take_all}
 use native.Mathlib.Omega.{arith}
 use Rattle.slices.proofs.Laws.{rest_lent}
-use Rattle.storage.proofs.Turns.{left_first, left_more, left_next, scattered_turn, scattered_end}
+use Rattle.storage.proofs.Laws.{scattered_here}
+use Rattle.storage.proofs.Turns.{area_more, area_next, scattered_turn}
 use Rattle.storage.proofs.scatter.Goals as goal
-
-pub loop-into-init : goal.loop-into-init
-loop-into-init c =
-    (left_first _ c.args.a _ _ c.requires.0, refl, rw sub-zero refl)
 
 pub next_piece-into-requires : goal.next_piece-into-requires
 next_piece-into-requires c =
-    let left = c.loop-into.invariant.0 in
-    (left.there.ccws, left_more _ _ _ _ _ left c.loop-into-test.true)
+    let l = c.loop-into in
+    (l.invariant.0.ccws, area_more _ _ _ _ l.invariant.0 c.loop-into-test.true)
 
 pub loop-into-preserved : goal.loop-into-preserved
 loop-into-preserved c =
-    let a = c.args in
     let l = c.loop-into in
-    let left = l.invariant.0 in
     let more = c.loop-into-test.true in
-    let next = c.next_piece-into.ensures.rest in
-    let back = rw rest_lent at c.put_at.ensures in (
-      left_next _ _ _ _ _ left _ _ next.0 next.1 (omega arith) more,
-      omega (arith, l.invariant.1),
-      scattered_turn l.into.piece _ l.main _ a.bytes.now a.n l.done _ next.0 back more ∙ l.invariant.2,
+    let next = c.next_piece-into.ensures.rest in (
+      rw (rest_lent, length-drop) (area_next _ _ _ _ l.invariant.0 more _ _ next.0 next.1 (omega arith)),
+      rw rest_lent (scattered_turn l.into.piece _ _ l.main _ l.rest.now next.0 c.put_at.ensures ∙ l.invariant.1),
     )
 
 pub returns : goal.returns
 returns c =
-    let a = c.args in
     let l = c.loop-into in
-    let last = c.loop-into-test.false in
-    let back = rw rest_lent at c.put_at-2.ensures in
-    scattered_end l.into.piece _ l.main _ a.bytes.now a.n l.done back last ∙ l.invariant.2
+    let all = take_all (length l.rest.now) l.rest.now (omega arith) in
+    c.put_at-2.ensures ∙ rw all (sym (scattered_here l.into.piece _ l.main l.rest.now c.loop-into-test.false)) ∙ l.invariant.1

@@ -1,11 +1,7 @@
 -- `skip` meets its contract. Before each piece, what is left behind the bytes still to skip is what is left of the whole; the CCWs left fall. Assumes nothing.
 use mathlib.Core.Path.{refl}
-use Rattle.storage.proofs.Beyond.{skipping_first, skipping_more, skipping_next, skipping_end}
+use Rattle.storage.proofs.Beyond.{skipping_more, skipping_next, skipping_end}
 use Rattle.storage.proofs.skip.Goals as goal
-
-pub loop-rest-init : goal.loop-rest-init
-loop-rest-init c =
-    skipping_first _ c.args.a _ c.requires.0 c.requires.1 c.requires.2
 
 pub next_piece-rest-requires : goal.next_piece-rest-requires
 next_piece-rest-requires c =
