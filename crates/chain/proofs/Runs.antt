@@ -32,11 +32,9 @@ use Rattle.model.specs.Log.{with_counts}
 use Rattle.model.specs.Names.{NO_OPERATION, chain_command}
 use Rattle.model.specs.Rules.{first_of}
 use Rattle.model.specs.Lent.{flag, block_count}
-use Rattle.model.specs.Pieces.{Command, commands_from, commands_in, command_at, final, fetched}
+use Rattle.model.specs.Pieces.{Command, commands_from, commands_in, command_at, final}
 use Rattle.model.specs.Decoded.{pieces_from, command_of, Decodes}
-use Rattle.model.specs.Parameters.{locate_length}
 use Rattle.model.specs.Causes.{call_causes, kind_by, kind_of}
-use Rattle.model.specs.Sense.{shown}
 use Rattle.model.specs.Commands.{Out, step}
 use Rattle.model.specs.Answer.{answer_size, residual, filled, answers_of, answered, channel_by, channel_status, wrong_length, goes_on}
 use Rattle.model.specs.Chain.{System, step_at, next, more, run, called}
@@ -51,7 +49,6 @@ use Rattle.model.proofs.Blocks.{mounted_same}
 use Rattle.model.proofs.Safety.{safe_start}
 use Rattle.model.proofs.Steps.{step_cause}
 use Rattle.unit_state.specs.declared.Left.{Left}
-use Rattle.sense_table.specs.Sensed.{sense_showing}
 use Rattle.unit_state.specs.declared.Running.{Running}
 use Rattle.buffered_log.specs.Counts.{counted}
 use Rattle.unit_state.specs.Standing.{holding, started, unit_of, state_of, state_left, unit_left, Sound}

@@ -16,7 +16,6 @@ use endings::{Ended, accept};
 use model::decoded::Decoded;
 use model::record::{Counts, Record};
 use model::state::Before;
-use slices::least;
 use storage::deliver;
 use unit_state::{Running, sense_now};
 
@@ -26,7 +25,7 @@ fn send(chain: &[u8], c: Decoded, s: Running, main: &mut [u8], bytes: &[u8], k: 
     ensures sent { main.new ≡ delivered (command_of chain.now c) main.old (take (min c.count (length bytes.now)) bytes.now) }
     ensures end { result ≡ sent_end c s (length bytes.now) k }
 {
-    let n = least(c.count, bytes.len());
+    let n = c.count.min(bytes.len());
     deliver(chain, c.area, main, &bytes[..n]);
     accept(c, s.after(k, Before::Other), n, bytes.len(), 0)
 }

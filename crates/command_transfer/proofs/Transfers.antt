@@ -12,7 +12,7 @@ use mathlib.Core.List.{List}
 use lib.ListN.{take}
 use native.Mathlib.Nat.{mul-le-mul_left, mul-le-mul_right}
 use native.Mathlib.Omega.{arith}
-use borrow.Author.Tests.{not-false, ne_eqb}
+use borrow.Author.Tests.{not-false}
 use Rattle.numbers.specs.Choice.{◌=?◌, pick, one_of}
 use Rattle.numbers.proofs.Choice.{pick_both}
 use Rattle.model.specs.declared.decoded.Decoded.{Decoded}

@@ -23,7 +23,6 @@ use model::extent::{Displacement, Extent, Offset};
 use model::operation;
 use model::record::Counts;
 use model::state::Before;
-use slices::least;
 use unit_state::Running;
 
 // Directly before stood an accepted LOCATE.
@@ -83,7 +82,7 @@ fn located_move(d: Device, c: Decoded, s: Running) -> Move
     Move {
         block: e.address(l.displacement) as usize,
         can: can,
-        n: least(c.count, can),
+        n: c.count.min(can),
     }
 }
 
@@ -199,7 +198,7 @@ pub fn read_ipl(
     if !none_or_ipl(before) {
         return refuse(s, Cause::IplNotFirst);
     }
-    let n = least(c.count, d.block);
+    let n = c.count.min(d.block);
     read_mapped(d, store, map, 0, 1, chain, c.area, main, n);
     ipl_done(d, c, s, n, block_count(d, store))
 }

@@ -29,7 +29,6 @@ use Rattle.model.specs.declared.device.Device.{Device}
 use Rattle.model.specs.Decoded.{command_of}
 use Rattle.model.specs.Commands.{Out, performed}
 use Rattle.model.specs.Answer.{unit_status, channel_by, wrong_length}
-use Rattle.sense_table.specs.declared.Sense.{Sense}
 use Rattle.sense_table.specs.Sensed.{sense_showing, no_sense}
 use Rattle.unit_state.specs.declared.Running.{Running}
 use Rattle.unit_state.specs.declared.Left.{Left}

@@ -33,7 +33,6 @@ use Rattle.model.specs.declared.status.ChannelStatus.{ChannelStatus}
 use Rattle.model.specs.Commands.{Out, after}
 use Rattle.model.specs.declared.device.Device.{Device}
 use Rattle.model.specs.State.{State}
-use Rattle.model.specs.Causes.{kind_of}
 use Rattle.model.specs.Chain.{System, Called, called}
 use Rattle.buffered_log.specs.declared.Log.{Log}
 use Rattle.buffered_log.specs.Counts.{counted}

@@ -19,7 +19,6 @@ use model::cause::Cause;
 use model::device::Device;
 use model::sizes;
 use record::{new_record, pack};
-use slices::clear;
 
 // The chain is run. 256 times the cause plus the commands reached.
 #[tactic(auto, using(crate::proofs::Hosted::refused_sized))]
@@ -77,7 +76,7 @@ pub fn loughrella_record(unit: &mut [u8], ready: u8, read_only: u8) -> u32
         return result_of(Err(Cause::BadRecord));
     }
     pack(new_record(ready, read_only), &mut unit[..sizes::RECORD]);
-    clear(&mut unit[sizes::RECORD..]);
+    unit[sizes::RECORD..].fill(0);
     0
 }
 

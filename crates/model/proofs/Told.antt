@@ -13,7 +13,6 @@ use mathlib.Core.List.{List, [], ◌∷◌}
 use borrow.Author.Tests.{ne_eqb}
 use Rattle.std.specs.Prelude.{Result, Ok, Err, ⊤}
 use Rattle.numbers.specs.Choice.{◌=?◌, pick}
-use Rattle.numbers.proofs.Choice.{pick_both}
 use Rattle.model.specs.declared.device.Device.{Device}
 use Rattle.model.specs.declared.cause.Cause.{Cause}
 use Rattle.model.specs.declared.cause.Cause.TheVariants.{BadChain, BadStore, LongStorage, ShortAnswers, AllChained, BadRecord, BadClass, BadMap, OtherFlags, NoCount, LeavesStorage, NoCommand, ShortExtent, SecondExtent, BadMask, Maintenance, OtherSize, FirstAfterLast, PastDevice, NoExtent, ShortLocate, BadModifier, BadOperation, BadCount, BadReplication, OutsideExtent, Forbidden, ReadOnly, NoAlternate, IplNotFirst, NoLocate, OtherOperation, NotListed, NotReady, PastBlocks, NotMapped}

@@ -28,13 +28,6 @@ pub fn be_bytes<const N: usize>(n: usize) -> [u8; N]
     *n.to_be_bytes().last_chunk().unwrap()
 }
 
-// A byte, wider. It hands on the bound that a sum of bytes needs.
-pub fn wide(x: u8) -> usize
-    ensures { (result ≡ x) × (result < 256) }
-{
-    usize::from(x)
-}
-
 // The number in the 2 bytes from `at` on.
 pub fn be2(s: &[u8], at: usize) -> usize
     requires { at + 2 ≤ length s.now }

@@ -147,17 +147,3 @@ pub fn same<const N: usize>(a: [u8; N], b: [u8; N]) -> bool
 {
     a == b
 }
-
-// Whether two senses are the same.
-pub fn same_sense(a: [u8; sizes::SENSE], b: [u8; sizes::SENSE]) -> bool
-    ensures { (result ≡ true → a ≡ b) × (a ≡ b → result ≡ true) }
-{
-    same(a, b)
-}
-
-// Whether two counts of three bytes are the same.
-pub fn same_count(x: [u8; 3], y: [u8; 3]) -> bool
-    ensures { (result ≡ true → x ≡ y) × (x ≡ y → result ≡ true) }
-{
-    same(x, y)
-}

@@ -3,21 +3,16 @@
 --     sense_is                   the 24 bytes of what the code carries are the definition's
 --     none_showing               an accepted command leaves the sense of cause 0
 -- No contract cites this file.
-use Prim.Native.Nat.{ℕ, ◌+◌, ◌*◌, ◌/◌, ◌%◌, ◌≤◌, ◌<◌}
+use Prim.Native.Nat.{ℕ, ◌+◌, ◌*◌, ◌/◌, ◌%◌, ◌<◌}
 use mathlib.Core.Path.{◌≡◌, refl}
-use mathlib.Core.Bool.{Bool, true, ◌&&◌}
 use mathlib.Core.List.{List, [], ◌∷◌}
 use native.Mathlib.Omega.{arith}
-use borrow.Author.Tests.{ltb-true, ne_eqb}
 use Rattle.slices.specs.Parts.{zeros, put}
-use Rattle.numbers.proofs.Tables.{same_upto}
-use Rattle.numbers.specs.Choice.{◌<?◌, pick}
+use Rattle.numbers.specs.Choice.{pick}
 use Rattle.model.specs.Sense.{sense_table, row_in, sense_of}
-use Rattle.model.specs.Sense as table
 use Rattle.model.specs.Parameters.{locate_length}
 use Rattle.model.proofs.Fields.{sense_row}
 use Rattle.numbers.specs.Big.{bytes3}
-use Rattle.numbers.proofs.Joined.{both_true}
 use Rattle.sense_table.specs.Sensed.{row_of, sense_showing, no_sense, sense_bytes}
 
 -- a row's number is its three bytes

@@ -1,15 +1,8 @@
-// How bytes move between slices, and within one: copied, cleared, put at a place. Nothing here is refused: a caller proves that what it names is there.
+// How bytes move between slices, and within one: copied, put at a place. Nothing here is refused: a caller proves that what it names is there.
 #![tactic(auto)]
 
-ghost use Rattle.std.specs.Prelude.{◌≡◌, ◌+◌, ◌≤◌, min, length, take};
-ghost use Rattle.slices.specs.Parts.{zeros, part, put, most_copied};
-
-// The lesser of two.
-pub fn least(a: usize, b: usize) -> usize
-    ensures { result ≡ min a b }
-{
-    a.min(b)
-}
+ghost use Rattle.std.specs.Prelude.{◌≡◌, ◌+◌, ◌≤◌, length, take};
+ghost use Rattle.slices.specs.Parts.{part, put, most_copied};
 
 // The most that one copy moves: a count has 16 bits.
 const HELD: usize = 65536;
@@ -34,14 +27,6 @@ pub fn copy_within(l: &mut [u8], from: usize, at: usize, n: usize)
     let mut held = [0u8; HELD];
     held[..n].copy_from_slice(&l[from..from + n]);
     l[at..at + n].copy_from_slice(&held[..n]);
-}
-
-// Zero in every byte.
-#[tactic(auto, unfolding(crate::specs::Parts::zeros))]
-pub fn clear(to: &mut [u8])
-    ensures { to.new ≡ zeros (length to.old) }
-{
-    to.fill(0);
 }
 
 // These bytes go to `to`, from `at` on.

@@ -4,6 +4,7 @@ use crate::show::{Answer, Counts, Hex};
 use crate::vector::{Place, Setting, Vector, Vectors, What};
 use model::record::{Record, UnitRecord};
 use model::sizes;
+use record::same;
 use std::io::{self, Print};
 
 // The longest that each buffer is: a chain, and its answers, of one CCW more than a chain may have; a store of
@@ -67,7 +68,7 @@ fn first(bytes: &mut [u8], n: usize) -> &mut [u8] {
 
 // Whether a run left sense and the count of blocks read as they were.
 fn is_kept(before: &Record, after: &Record) -> bool {
-    before.sense == after.sense && before.blocks_read == after.blocks_read
+    same(before.sense, after.sense) && same(before.blocks_read, after.blocks_read)
 }
 
 impl Bench {

@@ -1,6 +1,5 @@
 -- `define_by` meets its contract: what the parameters tell is the verdict. Assumes nothing.
-use mathlib.Core.Path.{◌≡◌, sym, ap, ◌∙◌}
-use mathlib.Core.List.{List}
+use mathlib.Core.Path.{sym, ap, ◌∙◌}
 use borrow.Author.Tests.{eq-eqb}
 use Rattle.std.specs.Prelude.{Result, ⊤}
 use Rattle.numbers.proofs.Choice.{pick_true, pick_false}

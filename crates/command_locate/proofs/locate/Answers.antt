@@ -1,6 +1,5 @@
 -- `locate` meets its contract. 30 and 31 are lines of its table; past them the eight bytes are there, and decide. Assumes nothing.
 use mathlib.Core.Path.{refl, ◌∙◌}
-use borrow.Author.Rules.{rules}
 use borrow.Author.Tests.{lt-ltb, not-false}
 use Rattle.slices.specs.Parts.{zeros}
 use Rattle.numbers.specs.Choice.{pick, one_of}

@@ -6,14 +6,14 @@ use Rattle.command_sense.proofs.send.Goals as goal
 
 pub deliver-requires : goal.deliver-requires
 deliver-requires c =
-    let n = c.least-n.ensures in
+    let n = c.min-n.ensures in
     let h = c.requires in
-    record { ccws = h.told.ccws; inside = h.inside; left = omega (arith, n, h.told.count, length-take c.least-n.result c.args.bytes.now) }
+    record { ccws = h.told.ccws; inside = h.inside; left = omega (arith, n, h.told.count, length-take c.min-n.result c.args.bytes.now) }
 
 pub returns : goal.returns
 unfolding delivered
 returns c =
-    let n = c.least-n.ensures in
+    let n = c.min-n.ensures in
     record {
       sent = rw n at c.deliver.ensures;
       end = rw (c.after.ensures, n) at c.accept.ensures;

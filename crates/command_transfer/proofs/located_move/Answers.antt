@@ -9,4 +9,4 @@ pub address-requires : goal.address-requires
 address-requires c = c.requires.from_first
 
 pub returns : goal.returns
-returns c = rw (c.least.ensures, c.address.ensures)
+returns c = rw (c.min.ensures, c.address.ensures)

@@ -28,8 +28,8 @@ read_mapped-requires c =
     record {
       mounted = mounted;
       stored = omega (arith, mounted.some_block);
-      bytes = omega (arith, c.least-n.ensures);
-      area = record { ccws = h.told.ccws; inside = h.inside; left = omega (arith, c.least-n.ensures, h.told.count) };
+      bytes = omega (arith, c.min-n.ensures);
+      area = record { ccws = h.told.ccws; inside = h.inside; left = omega (arith, c.min-n.ensures, h.told.count) };
     }
 
 pub block_count-requires : goal.block_count-requires
@@ -49,4 +49,4 @@ returns c =
     let a = c.args in
     λ u. ipl_ends u a.d a.chain.now a.c a.s a.main.now a.store.now a.map.now _ c.requires.1 _ _ _ c.requires.2
     (first_later _ _ (ap not (sym c.none_or_ipl.ensures) ∙ (ap not c.if-not-none_or_ipl.false)) ∙ first_none)
-    c.ipl_done.ensures c.least-n.ensures c.block_count.ensures c.read_mapped.ensures
+    c.ipl_done.ensures c.min-n.ensures c.block_count.ensures c.read_mapped.ensures

@@ -1,10 +1,6 @@
 -- `step` meets its contract: the channel's table, then the unit's, then the command's own. Assumes nothing.
 use mathlib.Core.Path.{sym, ◌∙◌}
-use Rattle.model.specs.Decoded.{command_of}
-use Rattle.model.proofs.Steps.{channel_room}
-use Rattle.unit_state.specs.Standing.{holding, state_of}
-use Rattle.unit.specs.Received.{Received}
-use Rattle.unit.proofs.Performing.{by_channel, by_ready, no_operation_ends}
+use Rattle.unit.proofs.Performing.{by_channel, by_ready}
 use Rattle.unit.proofs.step.Goals as goal
 
 pub channel_cause-requires : goal.channel_cause-requires
