@@ -1,5 +1,5 @@
 -- How the code tells a verdict: by a Result, whose error is a cause by its name.
---     cause_number, Numbers   01's number of a cause; the byte that stands for it
+--     cause_number, Numbered  01's number of a cause; the byte that stands for it
 --     told                    the verdict that a Result tells, as the tables of Causes have it: 0 where it is Ok
 --     code_of, Listed         the code of a command; the command of a code, or cause 43
 --     outcome_of              the Result of a verdict; one that is no cause's number tells Ok
@@ -51,8 +51,8 @@ cause_number NotReady = 44
 cause_number PastBlocks = 50
 cause_number NotMapped = 51
 
-abbrev pub Numbers : Cause → ℕ → Type 0
-Numbers cause n = n ≡ cause_number cause
+abbrev pub Numbered : Cause → ℕ → Type 0
+Numbered cause n = n ≡ cause_number cause
 
 abbrev pub told : {T : Type 0} → Result T Cause → ℕ
 told (Ok x) = 0

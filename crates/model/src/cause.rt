@@ -1,7 +1,7 @@
 // The causes (01, Causes) by name, each with 01's number: why a call is refused as a whole, or a command is. The definition has them by
 // number, in specs/Causes.antt, each with its rule; which is which, specs/Told.antt says.
 ghost use Rattle.std.specs.Prelude.{◌≡◌};
-ghost use Rattle.model.specs.Told.{Numbers, told};
+ghost use Rattle.model.specs.Told.{Numbered, told};
 
 #[derive(Clone, Copy, Debug, PartialEq, Eq)]
 pub enum Cause {
@@ -51,7 +51,7 @@ pub enum Cause {
 }
 
 impl From<Cause> for u8 {
-    ghost from_gives = { Numbers };
+    ghost from_gives = { Numbered };
 
     fn from(cause: Cause) -> u8 {
         cause as u8

@@ -4,6 +4,7 @@ ghost use Rattle.model.specs.Chain.{class_a};
 
 use crate::sizes;
 
+// Any two numbers, as in the definition, whose laws speak of all devices: so what a usable one is (`Usable`) is asked, and is no invariant of the type.
 #[derive(Clone, Copy)]
 pub struct Device {
     // the bytes of a block

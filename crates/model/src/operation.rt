@@ -1,4 +1,5 @@
 // LOCATE's operations (01, LOCATE; 002, 2.1.4): their codes, and which of them a READ may follow (`reads`), and a WRITE (`writes`).
+// Numbers, and no enum: the definition's `Located` holds any four bits of the byte, and cause 33 refuses those that are none of these.
 ghost use Rattle.std.specs.Prelude.{◌≡◌};
 ghost use Rattle.model.specs.Parameters.{reads, writes};
 

@@ -1,17 +1,18 @@
 -- Laws of a data area's pieces. No contract cites this file.
 --     gathered_here, scattered_here   no more bytes than the first piece has
---     gathered_next                   more than that: the first piece, and the bytes behind it
+--     gathered_next, scattered_next   more than that: the first piece, and the bytes behind it
 --     scattered_none                  no byte
 --     inside_of                       pieces that are the same lie where these lie
 --     length_taken                    as many bytes as are asked for
+--     fetched_array                   what an array of zeros holds that n bytes were fetched into
 use Prim.Native.Nat.{ℕ, ◌+◌, ◌-◌, ◌≤◌}
-use mathlib.Core.Path.{◌≡◌, refl, ap, ◌∙◌}
+use mathlib.Core.Path.{◌≡◌, refl, sym, ap, ◌∙◌}
 use mathlib.Core.List.{List, [], ◌∷◌, ◌++◌}
 use lib.ListN.{length, take, drop, drop_of_length-le}
 use lib.Seq.{take-take, take-nil, drop-nil, take_all, length-take-le, take-append-le, take-append-add}
 use native.Mathlib.Omega.{arith}
-use Rattle.slices.specs.Parts.{part, put}
-use Rattle.slices.proofs.Laws.{length_part, put_nil}
+use Rattle.slices.specs.Parts.{zeros, part, put}
+use Rattle.slices.proofs.Laws.{length_zeros, length_part, put_all, put_nil, drop_take}
 use Rattle.model.specs.declared.ccw.Piece.{Piece}
 use Rattle.model.specs.Pieces.{counts, bytes_in, scattered}
 use Rattle.model.specs.Safe.{Inside}
@@ -42,8 +43,16 @@ pub scattered_here : (p : Piece) (ps : List Piece) (main bytes : List ℕ) → l
 unfolding scattered
 scattered_here p ps main bytes h = rw (take_all p.count bytes h, drop_of_length-le bytes {i = p.count} h) (scattered_none ps _)
 
+pub scattered_next : (p : Piece) (ps : List Piece) (n : ℕ) (main bytes : List ℕ) → p.count ≤ n
+    → scattered (p ∷ ps) main (take n bytes) ≡ scattered ps (put main p.address (take p.count bytes)) (take (n - p.count) (drop p.count bytes))
+unfolding scattered
+scattered_next p ps n main bytes h = rw (take-take p.count n bytes h, drop_take p.count n bytes) refl
+
 pub inside_of : (ps qs : List Piece) (main : List ℕ) → ps ≡ qs → Inside qs main → Inside ps main
 inside_of ps qs main e h = rw e h
 
 pub length_taken : (ps : List Piece) (main : List ℕ) (n : ℕ) → Inside ps main → n ≤ counts ps → length (take n (bytes_in ps main)) ≡ n
 length_taken ps main n i l = length-take-le n _ (rw (length_gathered ps main i) l)
+
+pub fetched_array : (ps : List Piece) (main : List ℕ) (n : ℕ) (p : List ℕ) → p ≡ put (zeros n) 0 (take n (bytes_in ps main)) → Inside ps main → n ≤ counts ps → p ≡ take n (bytes_in ps main)
+fetched_array ps main n p e i l = e ∙ put_all _ _ (length_taken ps main n i l ∙ sym (length_zeros n))
