@@ -132,9 +132,8 @@ fn read_placed(
     read_window(d, store, at, chain, a, main, n)
 }
 
-// As `read_blocks`, whether or not an alternate is in use: window by window. READ IPL, which is rare, goes this way always; two callers
-// keep it a function of its own, and small what READ has inlined.
-pub fn read_mapped(
+// As `read_mapped`, window by window.
+fn read_windows(
     d: Device,
     store: &[u8],
     map: &[u8],
@@ -173,6 +172,26 @@ pub fn read_mapped(
         );
         left -= k;
     }
+}
+
+// As `read_blocks`, whether or not an alternate is in use. It asks where blocks lie of those alone that the bytes reach. READ IPL, which is
+// rare, goes this way always; two callers keep it a function of its own, and small what READ has inlined.
+pub fn read_mapped(
+    d: Device,
+    store: &[u8],
+    map: &[u8],
+    block: usize,
+    blocks: usize,
+    chain: &[u8],
+    a: Area,
+    main: &mut [u8],
+    n: usize,
+)
+    requires { Movable d store.now map.now block blocks chain.now a main.old n }
+    ensures { main.new
+        ≡ scattered (area_of chain.now a) main.old (take n (blocks_from d map.now store.now block blocks)) }
+{
+    read_windows(d, store, map, block, n.div_ceil(d.block), chain, a, main, n);
 }
 
 // n bytes of these blocks go to the front of the data area.

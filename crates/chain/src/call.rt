@@ -75,3 +75,12 @@ pub fn result_of(outcome: Result<usize, Cause>) -> u32
         Err(cause) => u32::from(u8::from(cause)) * 256,
     }
 }
+
+// The same by the cause's number, or 0, and any commands reached.
+#[tactic(auto, unfolding(model::specs::Host::result_of))]
+pub fn result_numbered(cause: u8, reached: usize) -> u32
+    requires { reached ≤ 32 }
+    ensures { result ≡ result_of cause reached }
+{
+    u32::from(cause) * 256 + reached as u32
+}

@@ -2,7 +2,7 @@
 --     answer_words, answer_bytes  an answer as the code carries it, and its bytes, once the residual of a piece is in it (with_residual)
 --     marked                      those bytes, where the length is wrong
 --     wrong_told, wrong_by        the length is wrong, by what the code carries of the command; of an accepted command alone
---     accepted_end                how a command ends that is accepted
+--     end_of                      how a command ends, by the number of its cause; accepted_end   one that is accepted
 --     refusal_of                  what a refused one shows; parameters_refused   how it ends, for its parameters, so many bytes of which were read;
 --                                 refused_end   one that has read none
 --     Leaves                      what is left of the unit is what the definition's command left, and nothing in it is open
@@ -29,6 +29,7 @@ use Rattle.model.specs.declared.device.Device.{Device}
 use Rattle.model.specs.Decoded.{command_of}
 use Rattle.model.specs.Commands.{Out, performed}
 use Rattle.model.specs.Answer.{unit_status, channel_by, wrong_length}
+use Rattle.sense_table.specs.declared.Sense.{Sense}
 use Rattle.sense_table.specs.Sensed.{sense_showing, no_sense}
 use Rattle.unit_state.specs.declared.Running.{Running}
 use Rattle.unit_state.specs.declared.Left.{Left}
@@ -59,6 +60,14 @@ abbrev pub wrong_by : Kind → Bool → Bool
 wrong_by Accepted wrong = wrong
 wrong_by ProgramCheck wrong = false
 wrong_by UnitCheck wrong = false
+
+abbrev pub end_of : Decoded → Running → ℕ → ℕ → ℕ → ℕ → Sense → Ended
+end_of c s moved can blocks cause sense = record {
+  left = record { state = s; sense = sense; kind = kind_of cause };
+  answer = answer_words (kind_of cause) cause blocks;
+  moved = moved;
+  wrong = wrong_by (kind_of cause) (wrong_told c can);
+}
 
 abbrev pub accepted_end : Decoded → Running → ℕ → ℕ → ℕ → Ended
 accepted_end c s moved can blocks = record {

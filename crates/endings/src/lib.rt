@@ -1,10 +1,12 @@
 // How a command ends, accepted or refused, with its answer, and how the unit is left: `accept`, `refuse`, and `refuse_parameters` for what
-// the parameters say.
+// the parameters say. `numbered` refuses by a cause's number.
 #![tactic(auto)]
 
 ghost use Rattle.std.specs.Prelude.{◌≡◌, ◌<◌, Err};
 ghost use Rattle.model.specs.Told.{told};
 ghost use Rattle.endings.specs.Ending.{answer_words, wrong_told, accepted_end, refusal_of, parameters_refused, refused_end};
+
+pub mod numbered;
 
 use model::cause::{Cause, byte_of};
 use model::command::is_no_operation;

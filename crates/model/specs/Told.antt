@@ -3,6 +3,7 @@
 --     told                    the verdict that a Result tells, as the tables of Causes have it: 0 where it is Ok
 --     code_of, Listed         the code of a command; the command of a code, or cause 43
 --     outcome_of              the Result of a verdict; one that is no cause's number tells Ok
+--     cause_numbers, Named    the numbers that causes have; the cause that has a number, or that it is none of them
 -- Assumes nothing.
 use Rattle.std.specs.Prelude.{ℕ, ◌≡◌, false, Result, Ok, Err, MatchResult, ⊤, List, [], ◌∷◌}
 use Rattle.numbers.specs.Choice.{◌=?◌, pick, one_of}
@@ -61,12 +62,18 @@ told (Err cause) = cause_number cause
 abbrev pub all_causes : List Cause
 all_causes = BadChain ∷ BadStore ∷ LongStorage ∷ ShortAnswers ∷ AllChained ∷ BadRecord ∷ BadClass ∷ BadMap ∷ OtherFlags ∷ NoCount ∷ LeavesStorage ∷ NoCommand ∷ ShortExtent ∷ SecondExtent ∷ BadMask ∷ Maintenance ∷ OtherSize ∷ FirstAfterLast ∷ PastDevice ∷ NoExtent ∷ ShortLocate ∷ BadModifier ∷ BadOperation ∷ BadCount ∷ BadReplication ∷ OutsideExtent ∷ Forbidden ∷ ReadOnly ∷ NoAlternate ∷ IplNotFirst ∷ NoLocate ∷ OtherOperation ∷ NotListed ∷ NotReady ∷ PastBlocks ∷ NotMapped ∷ []
 
+abbrev pub cause_numbers : List ℕ
+cause_numbers = 1 ∷ 2 ∷ 3 ∷ 4 ∷ 5 ∷ 6 ∷ 7 ∷ 8 ∷ 10 ∷ 11 ∷ 12 ∷ 13 ∷ 20 ∷ 21 ∷ 22 ∷ 23 ∷ 24 ∷ 25 ∷ 26 ∷ 30 ∷ 31 ∷ 32 ∷ 33 ∷ 34 ∷ 35 ∷ 36 ∷ 37 ∷ 38 ∷ 39 ∷ 40 ∷ 41 ∷ 42 ∷ 43 ∷ 44 ∷ 50 ∷ 51 ∷ []
+
 unfoldable pub outcome_in : List Cause → ℕ → Result ⊤ Cause
 outcome_in [] n = Ok tt
 outcome_in (cause ∷ causes) n = pick (cause_number cause =? n) (Err cause) (outcome_in causes n)
 
 unfoldable pub outcome_of : ℕ → Result ⊤ Cause
 outcome_of n = outcome_in all_causes n
+
+abbrev pub Named : ℕ → Result Cause ⊤ → Type 0
+Named n r = MatchResult r (λ cause. n ≡ cause_number cause) (λ _. one_of cause_numbers n ≡ false)
 
 -- the commands by name: their codes, and the command or the cause of a code
 abbrev pub code_of : Command → ℕ

@@ -26,4 +26,16 @@ impl Kind {
             Err(_) => Kind::UnitCheck,
         }
     }
+
+    // Of a cause by its number, or 0. As in the definition, a number that is no cause's is the unit's.
+    #[tactic(auto, unfolding(numbers::specs::Choice::one_of))]
+    pub fn numbered(cause: u8) -> Kind
+        ensures { result ≡ kind_of cause }
+    {
+        match cause {
+            0 => Kind::Accepted,
+            10 | 11 | 12 | 13 => Kind::ProgramCheck,
+            _ => Kind::UnitCheck,
+        }
+    }
 }

@@ -105,6 +105,19 @@ impl Sense {
         }
     }
 
+    // The same of a cause by its number. 0, and whatever else is no cause's, has no row.
+    pub fn numbered(cause: u8, parameters: [u8; sizes::LOCATE]) -> Sense
+        ensures { result ≡ sense_showing cause parameters }
+    {
+        match Cause::try_from(cause) {
+            Ok(named) => Sense::of(named, parameters),
+            Err(()) => Sense {
+                parameters,
+                ..Sense::none()
+            },
+        }
+    }
+
     // Its 24 bytes.
     pub fn bytes(self) -> [u8; sizes::SENSE]
         ensures { result ≡ sense_bytes self }

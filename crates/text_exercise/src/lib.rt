@@ -81,6 +81,7 @@ fn run_input(input: &[u8], output: &mut [u8]) -> usize
 }
 
 // What `exercise` prints for an input goes to the output, as much of it as fits; it returns how many bytes that is.
+#[tactic(auto, unfolding(crate::specs::Exercise::exercise, numbers::specs::Choice::pick))]
 pub fn exercise(input: &[u8], output: &mut [u8]) -> usize
     ensures { Adds output.old 0 (exercise input.now) result output.new }
 {

@@ -151,3 +151,10 @@ told_some none None n t h = sym (le-ltb n none (omega (arith, t)))
 told_some none (Some m) n t h =
     let apart = t.1 in
     sym (lt-ltb n none (omega arith))
+
+-- a number, or none, that is told so is only one
+pub tells_unique : (none n : ℕ) (r s : Option ℕ) → Tells none r n → Tells none s n → r ≡ s
+tells_unique none n None None e f = refl
+tells_unique none n None (Some j) e f = absurd (f.1 e)
+tells_unique none n (Some i) None e f = absurd (e.1 f)
+tells_unique none n (Some i) (Some j) e f = let z : i ≡ j = e.0 ∙ sym f.0 in ap Some z

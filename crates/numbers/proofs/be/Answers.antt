@@ -1,5 +1,5 @@
 -- `be` meets its contract: each turn has room for its byte, and adds it. Assumes nothing.
-use Rattle.std.proofs.Common.{◌≡◌, refl, sym, arith, add-one}
+use Rattle.std.proofs.Common.{◌≡◌, refl, arith, add-one}
 use Rattle.numbers.specs.Big.{be}
 use Rattle.numbers.proofs.Big.{more_bytes, be_fits, part_long, turn}
 use Rattle.numbers.proofs.be.Goals as goal
@@ -20,7 +20,7 @@ overflow_add-n g c =
 pub loop-b-preserved : goal.loop-b-preserved
 loop-b-preserved g c =
     let t = turn c.args.s.now c.args.at g.row.N c.loop-b.b-index (λ i. (c.type_inv.s i).fits) c.requires.narrow c.requires.there c.loop-b-test.true in
-    rw (c.loop-b.invariant, c.from.ensures, t.same, add-one) (sym (more_bytes c.loop-b.b-index c.args.s.now c.args.at))
+    rw add-one (omega (arith, c.loop-b.invariant, c.from.ensures, t.same, more_bytes c.loop-b.b-index c.args.s.now c.args.at))
 
 pub returns : goal.returns
 returns g c =

@@ -1,4 +1,4 @@
--- `read_mapped` meets its contract. Before each window, reading what is left makes the whole.
+-- `read_windows` meets its contract. Before each window, reading what is left makes the whole.
 use Prim.Native.Nat.{◌+◌, ◌-◌, ◌≤◌}
 use mathlib.Core.Path.{◌≡◌}
 use lib.ListN.{take}
@@ -6,7 +6,7 @@ use Rattle.model.specs.Lent.{blocks_from}
 use Rattle.model.specs.Pieces.{scattered}
 use Rattle.model.specs.Decoded.{area_of}
 use Rattle.blocks.proofs.Rows.{Left}
-use Rattle.blocks.proofs.read_mapped.Given as goal
+use Rattle.blocks.proofs.read_windows.Given as goal
 
 abbrev pub invariant-loop-here : goal.invariant-loop-here
 invariant-loop-here l =
